@@ -24,7 +24,7 @@ small a b ha hb =
       low-low = digits (omega arith) (omega arith);
       high-low = digits (omega arith) (omega arith);
       low-high = digits (omega arith) (omega arith);
-      high-high = digits (omega arith) (omega arith)
+      high-high = digits (omega arith) (omega arith);
     }
 
 -- the product of two numbers of two digits in any base P, given each column's carry and digit
@@ -38,10 +38,13 @@ columns P a₀ a₁ b₀ b₁ q₀ r₀ q r q₁ r₁ e₀ e e₁ =
   where
     sorted₁ : (a₁ * b₁ + q + q₁) * (P * P) + (r₁ * P + r₀) ≡ a₁ * b₁ * (P * P) + q * (P * P) + (q₁ * P + r₁) * P + r₀
     sorted₁ = simp (add-mul, mul-assoc, mul-comm, mul-left-comm, add-assoc, add-comm, add-left-comm) refl
+
     sorted₂ : a₁ * b₁ * (P * P) + q * (P * P) + (r + a₀ * b₁) * P + r₀ ≡ a₁ * b₁ * (P * P) + (q * P + r) * P + a₀ * b₁ * P + r₀
     sorted₂ = simp (add-mul, mul-assoc, mul-comm, mul-left-comm, add-assoc, add-comm, add-left-comm) refl
+
     sorted₃ : a₁ * b₁ * (P * P) + (a₁ * b₀ + q₀) * P + a₀ * b₁ * P + r₀ ≡ a₁ * b₁ * (P * P) + a₁ * b₀ * P + a₀ * b₁ * P + (q₀ * P + r₀)
     sorted₃ = simp (add-mul, mul-assoc, mul-comm, mul-left-comm, add-assoc, add-comm, add-left-comm) refl
+
     sorted₄ : a₁ * b₁ * (P * P) + a₁ * b₀ * P + a₀ * b₁ * P + a₀ * b₀ ≡ (a₁ * P + a₀) * (b₁ * P + b₀)
     sorted₄ = simp (mul-add, add-mul, mul-assoc, mul-comm, mul-left-comm, add-assoc, add-comm, add-left-comm) refl
 

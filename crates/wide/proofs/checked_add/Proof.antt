@@ -3,22 +3,16 @@ use Rattle.wide.proofs.CheckedLaws.{fitting, passing}
 use borrow.Author.Needs.{needs}
 use Rattle.wide.proofs.checked_add.Statement.{statement}
 use Rattle.wide.proofs.checked_add.Tie as tie
-use Rattle.wide.proofs.checked_add.Reads as reads
-use Rattle.wide.proofs.checked_add.Lts as lts
 
--- src/lib.rt:62:13
 sub-if1 : tie.Need-sub-if1
 sub-if1 c = search needs
 
--- src/lib.rt:63:31
 add-t5 : tie.Need-add-t5
 add-t5 c = search needs
 
--- src/lib.rt:63:9
 returns : tie.Need-returns
 returns c = fitting _ (omega arith)
 
--- src/lib.rt:59:1
 returns-2 : tie.Need-returns-2
 returns-2 c = passing _ (omega arith)
 

@@ -2,19 +2,13 @@ use Rattle.wide.proofs.CheckedLaws.{one-word, two-words}
 use borrow.Author.Needs.{needs}
 use Rattle.wide.proofs.checked_mul.Statement.{statement}
 use Rattle.wide.proofs.checked_mul.Tie as tie
-use Rattle.wide.proofs.checked_mul.Reads as reads
-use Rattle.wide.proofs.checked_mul.Lts as lts
-use Rattle.wide.proofs.product.Reads as product-reads
 
--- src/lib.rt:71:9
 product-requires : tie.Need-product-requires
 product-requires c κs = search needs
 
--- src/lib.rt:73:9
 returns : tie.Need-returns
 returns c = one-word _ _ _ (c .before .before .product .ensures) (c .if1 .taken) (c .before .struct-known .given .1 .0 .fits)
 
--- src/lib.rt:68:1
 returns-2 : tie.Need-returns-2
 returns-2 c = two-words _ _ _ (c .before .before .product .ensures) (c .if1 .left)
 

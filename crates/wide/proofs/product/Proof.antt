@@ -4,50 +4,37 @@ use Rattle.wide.proofs.Columns.{small, product-is}
 use borrow.Author.Needs.{needs}
 use Rattle.wide.proofs.product.Statement.{statement}
 use Rattle.wide.proofs.product.Tie as tie
-use Rattle.wide.proofs.product.Reads as reads
-use Rattle.wide.proofs.product.Lts as lts
 
--- src/lib.rt:26:15
 mul-low : tie.Need-mul-low
 mul-low c = omega (arith, small _ _ (c .fits .a .fits) (c .fits .b .fits))
 
--- src/lib.rt:27:18
 mul-middle : tie.Need-mul-middle
 mul-middle c = omega (arith, small _ _ (c .fits .a .fits) (c .fits .b .fits))
 
--- src/lib.rt:27:18
 add-middle : tie.Need-add-middle
 add-middle c = omega (arith, small _ _ (c .fits .a .fits) (c .fits .b .fits))
 
--- src/lib.rt:28:41
 mul-next : tie.Need-mul-next
 mul-next c = omega (arith, small _ _ (c .fits .a .fits) (c .fits .b .fits))
 
--- src/lib.rt:28:16
 add-next : tie.Need-add-next
 add-next c = omega (arith, small _ _ (c .fits .a .fits) (c .fits .b .fits))
 
--- src/lib.rt:30:13
 mul-t10 : tie.Need-mul-t10
 mul-t10 c = omega (arith, small _ _ (c .fits .a .fits) (c .fits .b .fits))
 
--- src/lib.rt:30:13
 add-t12 : tie.Need-add-t12
 add-t12 c = omega (arith, small _ _ (c .fits .a .fits) (c .fits .b .fits))
 
--- src/lib.rt:30:13
 add-t14 : tie.Need-add-t14
 add-t14 c = omega (arith, small _ _ (c .fits .a .fits) (c .fits .b .fits))
 
--- src/lib.rt:31:13
 mul-t16 : tie.Need-mul-t16
 mul-t16 c = search needs
 
--- src/lib.rt:31:13
 add-t18 : tie.Need-add-t18
 add-t18 c = search needs
 
--- src/lib.rt:19:1
 returns : tie.Need-returns
 returns c = product-is (2 ^ 32) (c .args .a) (c .args .b)
 

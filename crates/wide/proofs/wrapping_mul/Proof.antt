@@ -4,15 +4,10 @@ use Prim.Native.Nat.{ℕ, _%_, _^_}
 use Rattle.wide.proofs.Columns.{lower-word}
 use Rattle.wide.proofs.wrapping_mul.Statement.{statement}
 use Rattle.wide.proofs.wrapping_mul.Tie as tie
-use Rattle.wide.proofs.wrapping_mul.Reads as reads
-use Rattle.wide.proofs.wrapping_mul.Lts as lts
-use Rattle.wide.proofs.product.Reads as product-reads
 
--- src/lib.rt:39:9
 product-requires : tie.Need-product-requires
 product-requires c κs = search needs
 
--- src/lib.rt:36:1
 returns : tie.Need-returns
 returns c = lower-word (c .product .result .hi) _ (c .product .ok .1 .1 .1 .0 .1) ∙ ap (λ (n : ℕ). n % 2 ^ 64) (c .product .ensures)
 

@@ -3,20 +3,13 @@ use Prim.Native.Nat.{ℕ, _/_, _%_, _^_}
 use borrow.Author.Needs.{needs}
 use Rattle.wide.proofs.wrapping_mul_tenth.Statement.{statement}
 use Rattle.wide.proofs.wrapping_mul_tenth.Tie as tie
-use Rattle.wide.proofs.wrapping_mul_tenth.Reads as reads
-use Rattle.wide.proofs.wrapping_mul_tenth.Lts as lts
-use Rattle.wide.proofs.product.Reads as product-reads
-use Rattle.wide.proofs.tenth.Reads as tenth-reads
 
--- src/lib.rt:56:11
 product-requires : tie.Need-product-requires
 product-requires c κs = search needs
 
--- src/lib.rt:56:5
 tenth-requires : tie.Need-tenth-requires
 tenth-requires c κs = search needs
 
--- src/lib.rt:53:1
 returns : tie.Need-returns
 returns c = c .tenth .ensures ∙ ap (λ (n : ℕ). n / 10 % 2 ^ 64) (c .before .product .ensures)
 

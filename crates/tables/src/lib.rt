@@ -1,0 +1,117 @@
+// Tables of records of 32 words whose first words, the keys, rise: search by halves, and room made and closed for a record.
+ghost use mathlib.Core.Path.{_≡_};
+ghost use Prim.Native.Nat.{_+_, _≤_, _<_};
+ghost use Rattle.tables.specs.Table.{keyAt, narrowed, position, raised, lowered, gapOpened, gapClosed};
+use words::layout;
+
+// The part of a table that a search has left: `size` records from `from` on.
+pub struct Part {
+    pub from: u64,
+    pub size: u64,
+}
+
+// No table has more records than this.
+pub const MOST: u64 = 8191;
+
+pub fn key_at(w: &[u64], base: usize, i: u64) -> u64
+    ensures { λ r. ⌜ r ≡ keyAt (now (w .entry)) base i ⌝ }
+{
+    words::get(w, layout::entry_at(base, i))
+}
+
+// One step of a search: the half in which the first key that is not below `key` would stand.
+fn narrow(w: &[u64], base: usize, key: u64, p: Part) -> Part
+    requires { ⌜ (0 < p .size) × (p .from + p .size ≤ 8191) ⌝ }
+    ensures { λ r. ⌜ r ≡ narrowed (now (w .entry)) base key p ⌝ }
+{
+    let half = p.size / 2;
+    let middle = p.from + half;
+    if key_at(w, base, middle) < key {
+        return Part {
+            from: middle + 1,
+            size: p.size - (half + 1),
+        };
+    }
+    Part {
+        from: p.from,
+        size: half,
+    }
+}
+
+// How many of the `n` keys are below `key`, where the keys rise: the place of `key`.
+pub fn find(w: &[u64], base: usize, n: u64, key: u64) -> u64
+    ensures { λ r. ⌜ r ≡ position (now (w .entry)) base n key ⌝ }
+{
+    if MOST < n {
+        return n;
+    }
+    let mut p = Part { from: 0, size: n };
+    let mut left: usize = 13;
+    while 0 < left {
+        if p.size == 0 {
+            return p.from;
+        }
+        p = narrow(w, base, key, p);
+        left -= 1;
+    }
+    p.from
+}
+
+// The `m` words before place `end` moved up by a record, the last first.
+fn raise(w: &mut [u64], end: usize, m: usize)
+    requires { ⌜ (m ≤ end) × (end ≤ 2000000) ⌝ }
+    ensures { λ r. ⌜ now (w .exit) ≡ raised m (now (w .entry)) end ⌝ }
+{
+    let mut i = end;
+    let mut left = m;
+    while 0 < left {
+        i -= 1;
+        let word = words::get(w, i);
+        words::put(w, i + 32, word);
+        left -= 1;
+    }
+}
+
+// The `m` words that stand a record behind place `start` moved down by a record, the first first.
+fn lower(w: &mut [u64], start: usize, m: usize)
+    requires { ⌜ (m ≤ 2000000) × (start ≤ 2000000) ⌝ }
+    ensures { λ r. ⌜ now (w .exit) ≡ lowered m (now (w .entry)) start ⌝ }
+{
+    let mut i = start;
+    let mut left = m;
+    while 0 < left {
+        let word = words::get(w, i + 32);
+        words::put(w, i, word);
+        i += 1;
+        left -= 1;
+    }
+}
+
+// Records `i` to `n - 1` moved up by one.
+pub fn open_gap(w: &mut [u64], base: usize, n: u64, i: u64)
+    ensures { λ r. ⌜ now (w .exit) ≡ gapOpened (now (w .entry)) base n i ⌝ }
+{
+    if 1_000_000 < base {
+        return;
+    }
+    if MOST < n {
+        return;
+    }
+    if n < i {
+        return;
+    }
+    raise(w, layout::entry_at(base, n), 32 * ((n - i) as usize));
+}
+
+// Records `i + 1` to `n - 1` moved down by one.
+pub fn close_gap(w: &mut [u64], base: usize, n: u64, i: u64)
+    ensures { λ r. ⌜ now (w .exit) ≡ gapClosed (now (w .entry)) base n i ⌝ }
+{
+    if MOST < n {
+        return;
+    }
+    if n <= i {
+        return;
+    }
+    lower(w, layout::entry_at(base, i), 32 * ((n - i - 1) as usize));
+}

@@ -1,0 +1,2 @@
+pub mod ReadyWord
+pub mod LayoutLaws
