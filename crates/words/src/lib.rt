@@ -2,7 +2,7 @@
 pub mod layout;
 
 ghost use mathlib.Core.Path.{_≡_};
-ghost use Prim.Native.Nat.{_≤_};
+ghost use Prim.Native.Nat.{_+_, _≤_};
 ghost use lib.ListN.{getD, set};
 ghost use Rattle.words.specs.Word.{bitOf, withBit, withoutBit, topBit, bitAt};
 
@@ -20,6 +20,26 @@ pub fn put(w: &mut [u64], i: usize, v: u64)
     if i < w.len() {
         w[i] = v;
     }
+}
+
+// The word `k` behind place `at`: no sum of places can pass the end of a number.
+pub fn get_in(w: &[u64], at: usize, k: usize) -> u64
+    ensures { λ r. ⌜ r ≡ getD (now (w .entry)) (at + k) 0 ⌝ }
+{
+    if usize::MAX - at < k {
+        return 0;
+    }
+    get(w, at + k)
+}
+
+// The word `k` behind place `at` set.
+pub fn put_in(w: &mut [u64], at: usize, k: usize, v: u64)
+    ensures { λ r. ⌜ now (w .exit) ≡ set (now (w .entry)) (at + k) v ⌝ }
+{
+    if usize::MAX - at < k {
+        return;
+    }
+    put(w, at + k, v);
 }
 
 // Bit `p` alone, for a priority.

@@ -1,0 +1,5 @@
+pub mod CheckedLaws
+pub mod FormLaws
+pub mod AdvanceLaws
+pub mod ClockLaws
+pub mod Lent

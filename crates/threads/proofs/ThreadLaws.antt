@@ -1,0 +1,35 @@
+-- The laws of filling and writing places, as the code counts.
+use Prim.Native.Nat.{ℕ, zero, suc, _+_, _-_, _*_, _≤_, _<_}
+use native.Mathlib.Omega.{arith}
+use native.Mathlib.Numerals.{add-one}
+use mathlib.Core.List.{List}
+use mathlib.Core.Path.{_≡_, refl}
+use lib.ListN.{getD, set, length, length-set, replicate}
+use Rattle.threads.specs.Thread.{filled, putPlaces}
+
+pub filled-next : (k : ℕ) (list : List ℕ) → filled (k + 1) list ≡ set (filled k list) k (getD list k 0)
+unfolding filled
+filled-next k list = rw add-one
+
+pub filled-length : (k : ℕ) (list : List ℕ) → length (filled k list) ≡ 128
+unfolding filled
+filled-length zero list = refl
+filled-length (suc k) list = simp (length-set, filled-length k list)
+
+pub put-none : (k : ℕ) (w : List ℕ) (place : ℕ) (places : List ℕ) (i : ℕ) → k ≤ 0 → putPlaces k w place places i ≡ w
+unfolding putPlaces
+put-none zero w place places i h = refl
+put-none (suc k) w place places i h = absurd (omega arith)
+
+pub put-more : (k : ℕ) (w : List ℕ) (place : ℕ) (places : List ℕ) (i : ℕ) → 0 < k
+    → putPlaces k w place places i ≡ putPlaces (k - 1) (set w (place + i) (getD places i 0)) place places (i + 1)
+unfolding putPlaces
+put-more zero w place places i h = absurd (omega arith)
+put-more (suc k) w place places i h = simp (less-one k)
+  where
+    less-one : (k : ℕ) → suc k - 1 ≡ k
+    less-one k = omega arith
+
+pub filled-none : (list : List ℕ) → replicate 128 0 ≡ filled 0 list
+unfolding filled
+filled-none list = refl

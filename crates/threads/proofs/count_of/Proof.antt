@@ -1,0 +1,27 @@
+use denote.Ref.{now}
+use mathlib.Core.Path.{_≡_}
+use Prim.Native.Nat.{_+_}
+use lib.ListN.{getD}
+use borrow.Author.Tests.{le-leb, lt-leb}
+use Rattle.words.specs.Layout.{threadAt}
+use Rattle.threads.specs.Thread.{countOf}
+use borrow.Author.Needs.{needs}
+use Rattle.threads.proofs.count_of.Statement.{statement}
+use Rattle.threads.proofs.count_of.Tie as tie
+
+thread-at-requires : tie.Need-thread-at-requires
+thread-at-requires c κs = search needs
+
+get-in-requires : tie.Need-get-in-requires
+get-in-requires c κs = search needs
+
+returns : tie.Need-returns
+unfolding countOf
+returns c = let e : getD (now (c .before .before .before .before .args .w)) (threadAt (c .before .before .before .before .args .id) + 10) 0 ≡ c .before .get-in .result = cc in simp (e, le-leb _ _ (c .if1 .taken))
+
+returns-2 : tie.Need-returns-2
+unfolding countOf
+returns-2 c = let e : getD (now (c .before .before .before .before .args .w)) (threadAt (c .before .before .before .before .args .id) + 10) 0 ≡ c .before .get-in .result = cc in simp (e, lt-leb _ _ (c .if1 .left))
+
+pub count-of-spec : {M : Type 1} → statement M
+count-of-spec = tie.close (tie.spec thread-at-requires get-in-requires returns returns-2)
