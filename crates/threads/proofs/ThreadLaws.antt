@@ -3,9 +3,12 @@ use Prim.Native.Nat.{ℕ, zero, suc, _+_, _-_, _*_, _≤_, _<_}
 use native.Mathlib.Omega.{arith}
 use native.Mathlib.Numerals.{add-one}
 use mathlib.Core.List.{List}
+use mathlib.Core.Bool.{Bool, cond, true, false}
 use mathlib.Core.Path.{_≡_, refl}
+use lib.Dec.{leb}
+use borrow.Author.Tests.{leb-true}
 use lib.ListN.{getD, set, length, length-set, replicate}
-use Rattle.threads.specs.Thread.{filled, putPlaces}
+use Rattle.threads.specs.Thread.{threadCount, filled, putPlaces}
 
 pub filled-next : (k : ℕ) (list : List ℕ) → filled (k + 1) list ≡ set (filled k list) k (getD list k 0)
 unfolding filled
@@ -33,3 +36,11 @@ put-more (suc k) w place places i h = simp (less-one k)
 pub filled-none : (list : List ℕ) → replicate 128 0 ≡ filled 0 list
 unfolding filled
 filled-none list = refl
+
+pub count-small : (w : List ℕ) → threadCount w ≤ 256
+unfolding threadCount
+count-small w = go (leb (getD w 3 0) 256) refl
+  where
+    go : (b : Bool) → leb (getD w 3 0) 256 ≡ b → cond b (getD w 3 0) 256 ≤ 256
+    go true e = leb-true _ _ e
+    go false e = omega arith

@@ -1,9 +1,9 @@
 -- A thread's record in the words: word 0 its priority, 1 its state, 4 its wait result, 5 its exit status, and of its wait
 -- word 6 all, 7 timed, 8 the deadline, 9 the sequence, 10 the count, from 32 on the places.
 use mathlib.Core.Bool.{Bool, cond, false}
-use Prim.Native.Nat.{ℕ, zero, suc, _+_, _*_, _/_}
+use Prim.Native.Nat.{ℕ, zero, suc, _+_, _*_}
 use mathlib.Core.List.{List}
-use lib.ListN.{getD, set, length, replicate}
+use lib.ListN.{getD, set, replicate}
 use lib.Dec.{leb, ltb}
 use Rattle.words.specs.Layout as at
 use Rattle.words.specs.Layout.{threadAt}
@@ -27,6 +27,10 @@ putThread w id t =
 unfoldable pub known : List ℕ → ℕ → Bool
 known w id = cond (ltb id 1) false (leb id (getD w at.threads 0))
 
+-- how many threads there are, at most 256
+unfoldable pub threadCount : List ℕ → ℕ
+threadCount w = cond (leb (getD w at.threads 0) 256) (getD w at.threads 0) 256
+
 -- how many objects a thread waits for, at most 64
 unfoldable pub countOf : List ℕ → ℕ → ℕ
 countOf w id = cond (leb (getD w (threadAt id + 10) 0) 64) (getD w (threadAt id + 10) 0) 64
@@ -42,10 +46,10 @@ unfoldable pub filled : ℕ → List ℕ → List ℕ
 filled zero list = replicate 128 0
 filled (suc k) list = set (filled k list) k (getD list k 0)
 
--- the record of a wait for the pairs of a list
-unfoldable pub recorded : List ℕ → ℕ → ℕ → ℕ → ℕ → Wait
-recorded list all timed deadline sequence =
-    record { all = all; timed = timed; deadline = deadline; sequence = sequence; count = length list / 2; places = filled (length list) list }
+-- the record of a wait for the first `n` pairs of a list
+unfoldable pub recorded : List ℕ → ℕ → ℕ → ℕ → ℕ → ℕ → Wait
+recorded list n all timed deadline sequence =
+    record { all = all; timed = timed; deadline = deadline; sequence = sequence; count = n; places = filled (2 * n) list }
 
 -- the `k` words of `places` from `i` on written from `place + i` on
 unfoldable pub putPlaces : ℕ → List ℕ → ℕ → List ℕ → ℕ → List ℕ

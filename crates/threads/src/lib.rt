@@ -1,8 +1,7 @@
 // A thread's record in the words: its state, and what it waits for.
 ghost use mathlib.Core.Path.{_≡_};
 ghost use Prim.Native.Nat.{_≤_};
-ghost use lib.ListN.{length};
-ghost use Rattle.threads.specs.Thread.{threadOf, putThread, known, countOf, allOf, placesAt, filled, recorded, putPlaces, putTerms, putWait, noWait};
+ghost use Rattle.threads.specs.Thread.{threadOf, putThread, known, threadCount, countOf, allOf, placesAt, filled, recorded, putPlaces, putTerms, putWait, noWait};
 use words::layout;
 
 // States.
@@ -70,6 +69,17 @@ pub fn is_known(w: &[u64], id: u64) -> bool
     id <= words::get(w, layout::THREADS)
 }
 
+// How many threads there are, at most 256.
+pub fn count(w: &[u64]) -> u64
+    ensures { λ r. ⌜ r ≡ threadCount (now (w .entry)) ⌝ }
+{
+    let n = words::get(w, layout::THREADS);
+    if n <= 256 {
+        return n;
+    }
+    256
+}
+
 // How many objects a thread waits for, at most 64.
 pub fn count_of(w: &[u64], id: u64) -> usize
     ensures { λ r. ⌜ r ≡ countOf (now (w .entry)) id ⌝ }
@@ -109,19 +119,18 @@ fn fill(list: &[u64], n: usize) -> [u64; 128]
     places
 }
 
-// The record of a wait for the pairs of `list`.
-pub fn record_of(list: &[u64], all: u64, timed: u64, deadline: u64, sequence: u64) -> Wait
-    requires { ⌜ length (now list) ≤ 128 ⌝ }
-    ensures { λ r. ⌜ r ≡ recorded (now (list .entry)) all timed deadline sequence ⌝ }
+// The record of a wait for the first `n` pairs of `list`.
+pub fn record_of(list: &[u64], n: usize, all: u64, timed: u64, deadline: u64, sequence: u64) -> Wait
+    requires { ⌜ n ≤ 64 ⌝ }
+    ensures { λ r. ⌜ r ≡ recorded (now (list .entry)) n all timed deadline sequence ⌝ }
 {
-    let n = list.len();
-    let places = fill(list, n);
+    let places = fill(list, 2 * n);
     Wait {
         all,
         timed,
         deadline,
         sequence,
-        count: (n / 2) as u64,
+        count: n as u64,
         places,
     }
 }

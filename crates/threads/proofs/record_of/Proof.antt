@@ -3,6 +3,9 @@ use borrow.Author.Needs.{needs}
 use Rattle.threads.proofs.record_of.Statement.{statement}
 use Rattle.threads.proofs.record_of.Tie as tie
 
+mul-fill : tie.Need-mul-fill
+mul-fill c = search needs
+
 fill-requires : tie.Need-fill-requires
 fill-requires c κs = search needs
 
@@ -11,4 +14,4 @@ unfolding recorded
 returns c = cc
 
 pub record-of-spec : {M : Type 1} → statement M
-record-of-spec = tie.close (tie.spec fill-requires returns)
+record-of-spec = tie.close (tie.spec mul-fill fill-requires returns)

@@ -1,0 +1,24 @@
+use Rattle.exports.specs.ClockWords.{readInto}
+use borrow.Author.Needs.{needs}
+use Rattle.exports.proofs.clock_calls.clock_tick64.Statement.{statement}
+use Rattle.exports.proofs.clock_calls.clock_tick64.Tie as tie
+
+load-requires : tie.Need-load-requires
+load-requires c κs = search needs
+
+tick64-requires : tie.Need-tick64-requires
+tick64-requires c κs = search needs
+
+answer-requires : tie.Need-answer-requires
+answer-requires c κs = search needs
+
+same-length : tie.Need-same-length
+same-length c = search needs
+
+returns : tie.Need-returns
+unfolding readInto
+returns c = cc
+
+pub clock-tick64-spec : {M : Type 1} → statement M
+clock-tick64-spec =
+    tie.close (tie.spec load-requires tick64-requires answer-requires same-length returns)

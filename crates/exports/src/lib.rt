@@ -1,0 +1,3 @@
+// The proved calls for C and Rust, over numbers and slices. Each answers 0 or a number of document 01's table.
+pub mod clock_calls;
+pub mod clock_words;

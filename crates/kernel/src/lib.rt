@@ -1,0 +1,3 @@
+// Opening a scheduler, and the calls on threads. They are total: words out of form get an answer too, if no useful one.
+pub mod open;
+pub mod thread;
