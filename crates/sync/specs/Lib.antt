@@ -1,0 +1,3 @@
+pub mod Mutexes
+pub mod Events
+pub mod Release
