@@ -1,0 +1,179 @@
+-- The laws of the passes and walks, as the code counts: the end, the stop, and one step; and the bounds that its sums need.
+use Prim.Native.Nat.{ℕ, zero, suc, _+_, _-_, _≤_, _<_}
+use native.Mathlib.Omega.{arith}
+use mathlib.Core.List.{List}
+use mathlib.Core.Bool.{Bool, cond, true, false}
+use mathlib.Core.Path.{_≡_, refl}
+use lib.ListN.{getD}
+use lib.Dec.{eqb}
+use borrow.Author.Tests.{eq-eqb, ne-eqb, le-leb, lt-leb, not-true}
+use Rattle.words.specs.Layout as at
+use Rattle.chains.specs.declared.Chain.{Chain}
+use Rattle.chains.specs.Chain.{firstOf, nextOf}
+use Rattle.chains.specs.Ready.{readyChain, waitersChain}
+use Rattle.kernel.proofs.KernelLaws.{Limits, limits}
+use Rattle.form.specs.Header.{limitsPass}
+use Rattle.threads.specs.Thread.{threadCount}
+use Rattle.threads.proofs.ThreadLaws.{count-small}
+use Rattle.form.specs.Thread.{hasState, threadPasses, threadsIn, oneIf, stateCountIn, stateCount}
+use Rattle.form.specs.Object.{objectPasses, objectsIn}
+use Rattle.form.specs.Chain.{sequenceAt, sequencesIn, memberPasses, chainEnd, chainIn, chainSize, bitPasses, queueSize, queuesIn}
+
+less-one : (k : ℕ) → suc k - 1 ≡ k
+less-one k = omega arith
+
+-- ---- limits
+
+pub limits-pass : (w : List ℕ) → limitsPass w ≡ true → Limits (getD w at.threadLimit 0) (getD w at.objectLimit 0) (getD w at.dpcLimit 0)
+unfolding limitsPass
+limits-pass w e = limits _ _ _ (not-true _ e)
+
+-- ---- threads
+
+pub threads-none : (m : ℕ) (w : List ℕ) (id : ℕ) → m ≤ 0 → threadsIn m w id ≡ true
+unfolding threadsIn
+threads-none zero w id h = refl
+threads-none (suc m) w id h = absurd (omega arith)
+
+pub threads-stop : (m : ℕ) (w : List ℕ) (id : ℕ) → 0 < m → threadPasses w id ≡ false → threadsIn m w id ≡ false
+unfolding threadsIn
+threads-stop zero w id h e = absurd (omega arith)
+threads-stop (suc m) w id h e = simp e
+
+pub threads-more : (m : ℕ) (w : List ℕ) (id : ℕ) → 0 < m → threadPasses w id ≡ true → threadsIn m w id ≡ threadsIn (m - 1) w (id + 1)
+unfolding threadsIn
+threads-more zero w id h e = absurd (omega arith)
+threads-more (suc m) w id h e = simp (e, less-one m)
+
+pub one-small : (w : List ℕ) (id state : ℕ) → oneIf w id state ≤ 1
+unfolding oneIf
+one-small w id state = go (hasState w id state)
+  where
+    go : (b : Bool) → cond b 1 0 ≤ 1
+    go true = omega arith
+    go false = omega arith
+
+pub count-none : (m : ℕ) (w : List ℕ) (id state : ℕ) → m ≤ 0 → stateCountIn m w id state ≡ 0
+unfolding stateCountIn
+count-none zero w id state h = refl
+count-none (suc m) w id state h = absurd (omega arith)
+
+pub count-more : (m : ℕ) (w : List ℕ) (id state : ℕ) → 0 < m → stateCountIn m w id state ≡ oneIf w id state + stateCountIn (m - 1) w (id + 1) state
+unfolding stateCountIn
+count-more zero w id state h = absurd (omega arith)
+count-more (suc m) w id state h = simp (less-one m)
+
+count-few : (m : ℕ) (w : List ℕ) (id state : ℕ) → stateCountIn m w id state ≤ m
+unfolding stateCountIn
+count-few zero w id state = omega arith
+count-few (suc m) w id state = omega (arith, one-small w id state, count-few m w (id + 1) state)
+
+pub state-few : (w : List ℕ) (state : ℕ) → stateCount w state ≤ 256
+unfolding stateCount
+state-few w state = omega (arith, count-few (threadCount w) w 1 state, count-small w)
+
+-- ---- objects
+
+pub objects-none : (m : ℕ) (w : List ℕ) (base i : ℕ) → m ≤ 0 → objectsIn m w base i ≡ true
+unfolding objectsIn
+objects-none zero w base i h = refl
+objects-none (suc m) w base i h = absurd (omega arith)
+
+pub objects-stop : (m : ℕ) (w : List ℕ) (base i : ℕ) → 0 < m → objectPasses w base i ≡ false → objectsIn m w base i ≡ false
+unfolding objectsIn
+objects-stop zero w base i h e = absurd (omega arith)
+objects-stop (suc m) w base i h e = simp e
+
+pub objects-more : (m : ℕ) (w : List ℕ) (base i : ℕ) → 0 < m → objectPasses w base i ≡ true → objectsIn m w base i ≡ objectsIn (m - 1) w base (i + 1)
+unfolding objectsIn
+objects-more zero w base i h e = absurd (omega arith)
+objects-more (suc m) w base i h e = simp (e, less-one m)
+
+-- ---- the waiters' sequences
+
+pub sequences-none : (k : ℕ) (w : List ℕ) (at : ℕ) → k ≤ 0 → sequencesIn k w at ≡ false
+unfolding sequencesIn
+sequences-none zero w at h = refl
+sequences-none (suc k) w at h = absurd (omega arith)
+
+pub sequences-end : (k : ℕ) (w : List ℕ) (at : ℕ) → 0 < k → at ≡ 0 → sequencesIn k w at ≡ true
+unfolding sequencesIn
+sequences-end zero w at h e = absurd (omega arith)
+sequences-end (suc k) w at h e = simp (eq-eqb _ _ e)
+
+pub sequences-stop : (k : ℕ) (w : List ℕ) (at : ℕ) → 0 < k → (at ≡ 0 → ⊥) → sequenceAt w (nextOf w waitersChain at) ≤ sequenceAt w at
+    → sequencesIn k w at ≡ false
+unfolding sequencesIn
+sequences-stop zero w at h n l = absurd (omega arith)
+sequences-stop (suc k) w at h n l = simp (ne-eqb _ _ n, le-leb _ _ l)
+
+pub sequences-more : (k : ℕ) (w : List ℕ) (at : ℕ) → 0 < k → (at ≡ 0 → ⊥) → sequenceAt w at < sequenceAt w (nextOf w waitersChain at)
+    → sequencesIn k w at ≡ sequencesIn (k - 1) w (nextOf w waitersChain at)
+unfolding sequencesIn
+sequences-more zero w at h n l = absurd (omega arith)
+sequences-more (suc k) w at h n l = simp (ne-eqb _ _ n, lt-leb _ _ l, less-one k)
+
+-- ---- chains
+
+pub chain-none : (k : ℕ) (w : List ℕ) (c : Chain) (state p before at n : ℕ) → k ≤ 0 → chainIn k w c state p before at n ≡ 0
+unfolding chainIn
+chain-none zero w c state p before at n h = refl
+chain-none (suc k) w c state p before at n h = absurd (omega arith)
+
+pub chain-ends : (k : ℕ) (w : List ℕ) (c : Chain) (state p before at n : ℕ) → 0 < k → at ≡ 0
+    → chainIn k w c state p before at n ≡ chainEnd w c before n
+unfolding chainIn
+chain-ends zero w c state p before at n h e = absurd (omega arith)
+chain-ends (suc k) w c state p before at n h e = simp (eq-eqb _ _ e)
+
+pub chain-stop : (k : ℕ) (w : List ℕ) (c : Chain) (state p before at n : ℕ) → 0 < k → (at ≡ 0 → ⊥) → memberPasses w at state p ≡ false
+    → chainIn k w c state p before at n ≡ 0
+unfolding chainIn
+chain-stop zero w c state p before at n h ne e = absurd (omega arith)
+chain-stop (suc k) w c state p before at n h ne e = simp (ne-eqb _ _ ne, e)
+
+pub chain-more : (k : ℕ) (w : List ℕ) (c : Chain) (state p before at n : ℕ) → 0 < k → (at ≡ 0 → ⊥) → memberPasses w at state p ≡ true
+    → chainIn k w c state p before at n ≡ chainIn (k - 1) w c state p at (nextOf w c at) (n + 1)
+unfolding chainIn
+chain-more zero w c state p before at n h ne e = absurd (omega arith)
+chain-more (suc k) w c state p before at n h ne e = simp (ne-eqb _ _ ne, e, less-one k)
+
+chain-small : (k : ℕ) (w : List ℕ) (c : Chain) (state p before at n : ℕ) → chainIn k w c state p before at n ≤ n + k
+unfolding chainIn chainEnd
+chain-small zero w c state p before at n = omega arith
+chain-small (suc k) w c state p before at n =
+    go (eqb at 0) (eqb (getD w (c .last) 0) before) (memberPasses w at state p) (chain-small k w c state p at (nextOf w c at) (n + 1))
+  where
+    go : (x y z : Bool) → chainIn k w c state p at (nextOf w c at) (n + 1) ≤ n + 1 + k
+        → cond x (cond y n 0) (cond z (chainIn k w c state p at (nextOf w c at) (n + 1)) 0) ≤ n + suc k
+    go true true z ih = omega arith
+    go true false z ih = omega arith
+    go false y true ih = omega arith
+    go false y false ih = omega arith
+
+-- ---- the ready queues
+
+pub queue-small : (w : List ℕ) (p : ℕ) → queueSize w p ≤ 4097
+unfolding queueSize chainSize
+queue-small w p = chain-small 4096 w (readyChain p) 2 p 0 (firstOf w (readyChain p)) 1
+
+pub queues-none : (k : ℕ) (w : List ℕ) (p n : ℕ) → k ≤ 0 → queuesIn k w p n ≡ n
+unfolding queuesIn
+queues-none zero w p n h = refl
+queues-none (suc k) w p n h = absurd (omega arith)
+
+pub queues-stop : (k : ℕ) (w : List ℕ) (p n : ℕ) → 0 < k → queueSize w p ≡ 0 → queuesIn k w p n ≡ 0
+unfolding queuesIn
+queues-stop zero w p n h e = absurd (omega arith)
+queues-stop (suc k) w p n h e = simp (eq-eqb _ _ e)
+
+pub queues-unmarked : (k : ℕ) (w : List ℕ) (p n : ℕ) → 0 < k → (queueSize w p ≡ 0 → ⊥) → bitPasses w p ≡ false → queuesIn k w p n ≡ 0
+unfolding queuesIn
+queues-unmarked zero w p n h ne e = absurd (omega arith)
+queues-unmarked (suc k) w p n h ne e = simp (ne-eqb _ _ ne, e)
+
+pub queues-more : (k : ℕ) (w : List ℕ) (p n : ℕ) → 0 < k → (queueSize w p ≡ 0 → ⊥) → bitPasses w p ≡ true
+    → queuesIn k w p n ≡ queuesIn (k - 1) w (p + 1) (n + (queueSize w p - 1))
+unfolding queuesIn
+queues-more zero w p n h ne e = absurd (omega arith)
+queues-more (suc k) w p n h ne e = simp (ne-eqb _ _ ne, e, less-one k)

@@ -1,0 +1,22 @@
+use borrow.Author.Tests.{eq-eqb, ne-eqb}
+use Rattle.form.specs.Chain.{chainEnd}
+use borrow.Author.Needs.{needs}
+use Rattle.form.proofs.chain.chain_end.Statement.{statement}
+use Rattle.form.proofs.chain.chain_end.Tie as tie
+
+cast-get : tie.Need-cast-get
+cast-get c = search needs
+
+get-requires : tie.Need-get-requires
+get-requires c κs = search needs
+
+returns : tie.Need-returns
+unfolding chainEnd
+returns c = simp (← (c .before .get .ensures), eq-eqb _ _ (c .if1 .taken))
+
+returns-2 : tie.Need-returns-2
+unfolding chainEnd
+returns-2 c = simp (← (c .before .get .ensures), ne-eqb _ _ (c .if1 .left))
+
+pub chain-end-spec : {M : Type 1} → statement M
+chain-end-spec = tie.close (tie.spec cast-get get-requires returns returns-2)

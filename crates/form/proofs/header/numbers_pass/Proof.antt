@@ -1,0 +1,38 @@
+use mathlib.Core.Path.{_∙_, sym}
+use borrow.Author.Tests.{not-true, not-false}
+use Rattle.form.specs.Header.{headerNumbers}
+use borrow.Author.Needs.{needs}
+use Rattle.form.proofs.header.numbers_pass.Statement.{statement}
+use Rattle.form.proofs.header.numbers_pass.Tie as tie
+
+counts-pass-requires : tie.Need-counts-pass-requires
+counts-pass-requires c κs = search needs
+
+returns : tie.Need-returns
+unfolding headerNumbers
+returns c = simp (sym (c .before .counts-pass .ensures) ∙ not-true _ (c .if1 .taken))
+
+current-passes-requires : tie.Need-current-passes-requires
+current-passes-requires c κs = search needs
+
+returns-2 : tie.Need-returns-2
+unfolding headerNumbers
+returns-2 c = simp (sym (c .before .before .before .counts-pass .ensures) ∙ not-false _ (c .before .before .if1 .left), sym (c .before .current-passes .ensures) ∙ not-true _ (c .if2 .taken))
+
+ready-passes-requires : tie.Need-ready-passes-requires
+ready-passes-requires c κs = search needs
+
+returns-3 : tie.Need-returns-3
+unfolding headerNumbers
+returns-3 c = simp (sym (c .before .before .before .before .counts-pass .ensures) ∙ not-false _ (c .before .before .before .if1 .left), sym (c .before .before .current-passes .ensures) ∙ not-false _ (c .before .if2 .left)) (cc)
+
+pub numbers-pass-spec : {M : Type 1} → statement M
+numbers-pass-spec =
+    tie.close
+    (tie.spec
+    counts-pass-requires
+    returns
+    current-passes-requires
+    returns-2
+    ready-passes-requires
+    returns-3)

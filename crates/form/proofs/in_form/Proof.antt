@@ -1,0 +1,83 @@
+use mathlib.Core.Path.{_∙_, sym}
+use borrow.Author.Tests.{not-true, not-false}
+use Rattle.form.specs.Form.{inForm}
+use borrow.Author.Needs.{needs}
+use Rattle.form.proofs.in_form.Statement.{statement}
+use Rattle.form.proofs.in_form.Tie as tie
+
+limits-pass-requires : tie.Need-limits-pass-requires
+limits-pass-requires c κs = search needs
+
+returns : tie.Need-returns
+unfolding inForm
+returns c = simp (sym (c .before .limits-pass .ensures) ∙ not-true _ (c .if1 .taken))
+
+is-long-enough-requires : tie.Need-is-long-enough-requires
+is-long-enough-requires c κs = sym (c .before .limits-pass .ensures) ∙ not-false _ (c .if1 .left)
+
+returns-2 : tie.Need-returns-2
+unfolding inForm
+returns-2 c = simp (sym (c .before .before .before .limits-pass .ensures) ∙ not-false _ (c .before .before .if1 .left), sym (c .before .is-long-enough .ensures) ∙ not-true _ (c .if2 .taken))
+
+numbers-pass-requires : tie.Need-numbers-pass-requires
+numbers-pass-requires c κs = search needs
+
+returns-3 : tie.Need-returns-3
+unfolding inForm
+returns-3 c = simp (sym (c .before .before .before .before .before .limits-pass .ensures) ∙ not-false _ (c .before .before .before .before .if1 .left), sym (c .before .before .before .is-long-enough .ensures) ∙ not-false _ (c .before .before .if2 .left), sym (c .before .numbers-pass .ensures) ∙ not-true _ (c .if3 .taken))
+
+threads-pass-requires : tie.Need-threads-pass-requires
+threads-pass-requires c κs = search needs
+
+returns-4 : tie.Need-returns-4
+unfolding inForm
+returns-4 c = simp (sym (c .before .before .before .before .before .before .before .limits-pass .ensures) ∙ not-false _ (c .before .before .before .before .before .before .if1 .left), sym (c .before .before .before .before .before .is-long-enough .ensures) ∙ not-false _ (c .before .before .before .before .if2 .left), sym (c .before .before .before .numbers-pass .ensures) ∙ not-false _ (c .before .before .if3 .left), sym (c .before .threads-pass .ensures) ∙ not-true _ (c .if4 .taken))
+
+objects-pass-requires : tie.Need-objects-pass-requires
+objects-pass-requires c κs = search needs
+
+returns-5 : tie.Need-returns-5
+unfolding inForm
+returns-5 c = simp (sym (c .before .before .before .before .before .before .before .before .before .limits-pass .ensures) ∙ not-false _ (c .before .before .before .before .before .before .before .before .if1 .left), sym (c .before .before .before .before .before .before .before .is-long-enough .ensures) ∙ not-false _ (c .before .before .before .before .before .before .if2 .left), sym (c .before .before .before .before .before .numbers-pass .ensures) ∙ not-false _ (c .before .before .before .before .if3 .left), sym (c .before .before .before .threads-pass .ensures) ∙ not-false _ (c .before .before .if4 .left), sym (c .before .objects-pass .ensures) ∙ not-true _ (c .if5 .taken))
+
+sequences-rise-requires : tie.Need-sequences-rise-requires
+sequences-rise-requires c κs = search needs
+
+returns-6 : tie.Need-returns-6
+unfolding inForm
+returns-6 c = simp (sym (c .before .before .before .before .before .before .before .before .before .before .before .limits-pass .ensures) ∙ not-false _ (c .before .before .before .before .before .before .before .before .before .before .if1 .left), sym (c .before .before .before .before .before .before .before .before .before .is-long-enough .ensures) ∙ not-false _ (c .before .before .before .before .before .before .before .before .if2 .left), sym (c .before .before .before .before .before .before .before .numbers-pass .ensures) ∙ not-false _ (c .before .before .before .before .before .before .if3 .left), sym (c .before .before .before .before .before .threads-pass .ensures) ∙ not-false _ (c .before .before .before .before .if4 .left), sym (c .before .before .before .objects-pass .ensures) ∙ not-false _ (c .before .before .if5 .left), sym (c .before .sequences-rise .ensures) ∙ not-true _ (c .if6 .taken))
+
+waiters-stand-once-requires : tie.Need-waiters-stand-once-requires
+waiters-stand-once-requires c κs = search needs
+
+returns-7 : tie.Need-returns-7
+unfolding inForm
+returns-7 c = simp (sym (c .before .before .before .before .before .before .before .before .before .before .before .before .before .limits-pass .ensures) ∙ not-false _ (c .before .before .before .before .before .before .before .before .before .before .before .before .if1 .left), sym (c .before .before .before .before .before .before .before .before .before .before .before .is-long-enough .ensures) ∙ not-false _ (c .before .before .before .before .before .before .before .before .before .before .if2 .left), sym (c .before .before .before .before .before .before .before .before .before .numbers-pass .ensures) ∙ not-false _ (c .before .before .before .before .before .before .before .before .if3 .left), sym (c .before .before .before .before .before .before .before .threads-pass .ensures) ∙ not-false _ (c .before .before .before .before .before .before .if4 .left), sym (c .before .before .before .before .before .objects-pass .ensures) ∙ not-false _ (c .before .before .before .before .if5 .left), sym (c .before .before .before .sequences-rise .ensures) ∙ not-false _ (c .before .before .if6 .left), sym (c .before .waiters-stand-once .ensures) ∙ not-true _ (c .if7 .taken))
+
+ready-stand-once-requires : tie.Need-ready-stand-once-requires
+ready-stand-once-requires c κs = search needs
+
+returns-8 : tie.Need-returns-8
+unfolding inForm
+returns-8 c = simp (sym (c .before .before .before .before .before .before .before .before .before .before .before .before .before .before .limits-pass .ensures) ∙ not-false _ (c .before .before .before .before .before .before .before .before .before .before .before .before .before .if1 .left), sym (c .before .before .before .before .before .before .before .before .before .before .before .before .is-long-enough .ensures) ∙ not-false _ (c .before .before .before .before .before .before .before .before .before .before .before .if2 .left), sym (c .before .before .before .before .before .before .before .before .before .before .numbers-pass .ensures) ∙ not-false _ (c .before .before .before .before .before .before .before .before .before .if3 .left), sym (c .before .before .before .before .before .before .before .before .threads-pass .ensures) ∙ not-false _ (c .before .before .before .before .before .before .before .if4 .left), sym (c .before .before .before .before .before .before .objects-pass .ensures) ∙ not-false _ (c .before .before .before .before .before .if5 .left), sym (c .before .before .before .before .sequences-rise .ensures) ∙ not-false _ (c .before .before .before .if6 .left), sym (c .before .before .waiters-stand-once .ensures) ∙ not-false _ (c .before .if7 .left)) (cc)
+
+pub in-form-spec : {M : Type 1} → statement M
+in-form-spec =
+    tie.close
+    (tie.spec
+    limits-pass-requires
+    returns
+    is-long-enough-requires
+    returns-2
+    numbers-pass-requires
+    returns-3
+    threads-pass-requires
+    returns-4
+    objects-pass-requires
+    returns-5
+    sequences-rise-requires
+    returns-6
+    waiters-stand-once-requires
+    returns-7
+    ready-stand-once-requires
+    returns-8)

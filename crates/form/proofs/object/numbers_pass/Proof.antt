@@ -1,0 +1,46 @@
+use borrow.Author.Tests.{eq-eqb, ne-eqb}
+use Rattle.form.specs.Object.{objectNumbers}
+use borrow.Author.Needs.{needs}
+use Rattle.form.proofs.object.numbers_pass.Statement.{statement}
+use Rattle.form.proofs.object.numbers_pass.Tie as tie
+
+entry-at-requires : tie.Need-entry-at-requires
+entry-at-requires c κs = search needs
+
+key-at-requires : tie.Need-key-at-requires
+key-at-requires c κs = search needs
+
+returns : tie.Need-returns
+unfolding objectNumbers
+returns c = simp (← (c .before .key-at .ensures), eq-eqb _ _ (c .if1 .taken))
+
+get-in-requires : tie.Need-get-in-requires
+get-in-requires c κs = search needs
+
+returns-2 : tie.Need-returns-2
+unfolding objectNumbers
+returns-2 c = simp (← (c .before .before .before .key-at .ensures), ne-eqb _ _ (c .before .before .if1 .left), ← (c .before .before .before .before .entry-at .ensures), ← (c .before .get-in .ensures), eq-eqb _ _ (c .if2 .taken))
+
+event-passes-requires : tie.Need-event-passes-requires
+event-passes-requires c κs = search needs
+
+returns-3 : tie.Need-returns-3
+unfolding objectNumbers
+returns-3 c = simp (← (c .before .before .before .before .before .key-at .ensures), ne-eqb _ _ (c .before .before .before .before .if1 .left), ← (c .before .before .before .before .before .before .entry-at .ensures), ← (c .before .before .before .get-in .ensures), ne-eqb _ _ (c .before .before .if2 .left), eq-eqb _ _ (c .before .if3 .taken)) (cc)
+
+returns-4 : tie.Need-returns-4
+unfolding objectNumbers
+returns-4 c = simp (← (c .before .before .before .before .key-at .ensures), ne-eqb _ _ (c .before .before .before .if1 .left), ← (c .before .before .before .before .before .entry-at .ensures), ← (c .before .before .get-in .ensures), ne-eqb _ _ (c .before .if2 .left), ne-eqb _ _ (c .if3 .left))
+
+pub numbers-pass-spec : {M : Type 1} → statement M
+numbers-pass-spec =
+    tie.close
+    (tie.spec
+    entry-at-requires
+    key-at-requires
+    returns
+    get-in-requires
+    returns-2
+    event-passes-requires
+    returns-3
+    returns-4)

@@ -1,0 +1,38 @@
+use mathlib.Core.Path.{_∙_, sym}
+use borrow.Author.Tests.{not-true, not-false}
+use Rattle.form.specs.Object.{objectPasses}
+use borrow.Author.Needs.{needs}
+use Rattle.form.proofs.object.object_passes.Statement.{statement}
+use Rattle.form.proofs.object.object_passes.Tie as tie
+
+numbers-pass-requires : tie.Need-numbers-pass-requires
+numbers-pass-requires c κs = search needs
+
+returns : tie.Need-returns
+unfolding objectPasses
+returns c = simp (sym (c .before .numbers-pass .ensures) ∙ not-true _ (c .if1 .taken))
+
+key-rises-requires : tie.Need-key-rises-requires
+key-rises-requires c κs = search needs
+
+returns-2 : tie.Need-returns-2
+unfolding objectPasses
+returns-2 c = simp (sym (c .before .before .before .numbers-pass .ensures) ∙ not-false _ (c .before .before .if1 .left), sym (c .before .key-rises .ensures) ∙ not-true _ (c .if2 .taken))
+
+owner-lives-requires : tie.Need-owner-lives-requires
+owner-lives-requires c κs = search needs
+
+returns-3 : tie.Need-returns-3
+unfolding objectPasses
+returns-3 c = simp (sym (c .before .before .before .before .numbers-pass .ensures) ∙ not-false _ (c .before .before .before .if1 .left), sym (c .before .before .key-rises .ensures) ∙ not-false _ (c .before .if2 .left)) (cc)
+
+pub object-passes-spec : {M : Type 1} → statement M
+object-passes-spec =
+    tie.close
+    (tie.spec
+    numbers-pass-requires
+    returns
+    key-rises-requires
+    returns-2
+    owner-lives-requires
+    returns-3)

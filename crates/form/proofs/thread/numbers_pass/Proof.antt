@@ -1,0 +1,38 @@
+use mathlib.Core.Path.{_∙_, sym}
+use borrow.Author.Tests.{not-true, not-false}
+use Rattle.form.specs.Thread.{threadNumbers}
+use borrow.Author.Needs.{needs}
+use Rattle.form.proofs.thread.numbers_pass.Statement.{statement}
+use Rattle.form.proofs.thread.numbers_pass.Tie as tie
+
+record-passes-requires : tie.Need-record-passes-requires
+record-passes-requires c κs = search needs
+
+returns : tie.Need-returns
+unfolding threadNumbers
+returns c = simp (sym (c .before .record-passes .ensures) ∙ not-true _ (c .if1 .taken))
+
+wait-passes-requires : tie.Need-wait-passes-requires
+wait-passes-requires c κs = search needs
+
+returns-2 : tie.Need-returns-2
+unfolding threadNumbers
+returns-2 c = simp (sym (c .before .before .before .record-passes .ensures) ∙ not-false _ (c .before .before .if1 .left), sym (c .before .wait-passes .ensures) ∙ not-true _ (c .if2 .taken))
+
+delay-passes-requires : tie.Need-delay-passes-requires
+delay-passes-requires c κs = search needs
+
+returns-3 : tie.Need-returns-3
+unfolding threadNumbers
+returns-3 c = simp (sym (c .before .before .before .before .record-passes .ensures) ∙ not-false _ (c .before .before .before .if1 .left), sym (c .before .before .wait-passes .ensures) ∙ not-false _ (c .before .if2 .left)) (cc)
+
+pub numbers-pass-spec : {M : Type 1} → statement M
+numbers-pass-spec =
+    tie.close
+    (tie.spec
+    record-passes-requires
+    returns
+    wait-passes-requires
+    returns-2
+    delay-passes-requires
+    returns-3)

@@ -1,0 +1,19 @@
+-- Words in form, by the clauses of document 01, section "Limits". `threadsPass` and `objectsPass` test each record for the
+-- clauses about a thread and about an object; that threads number 1 upward is so by their records' places.
+use mathlib.Core.Bool.{Bool, cond, false}
+use Prim.Native.Nat.{ℕ}
+use mathlib.Core.List.{List}
+use Rattle.form.specs.Header.{limitsPass, longEnough, headerNumbers}
+use Rattle.form.specs.Thread.{threadsPass}
+use Rattle.form.specs.Object.{objectsPass}
+use Rattle.form.specs.Chain.{sequencesRise, waitersStandOnce, readyStandOnce}
+
+unfoldable pub inForm : List ℕ → Bool
+inForm w =
+    cond (limitsPass w)
+    (cond (longEnough w)
+    (cond (headerNumbers w)
+    (cond (threadsPass w)
+    (cond (objectsPass w)
+    (cond (sequencesRise w)
+    (cond (waitersStandOnce w) (readyStandOnce w) false) false) false) false) false) false) false

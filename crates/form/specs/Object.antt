@@ -1,0 +1,41 @@
+-- The objects in form. Word 0 of a record is its key, 1 its kind (0 a mutex, 1 an event), 2 manual, 3 signaled, 4 the owner.
+use mathlib.Core.Bool.{Bool, cond, true, false}
+use Prim.Native.Nat.{ℕ, zero, suc, _+_, _-_}
+use mathlib.Core.List.{List}
+use lib.ListN.{getD}
+use lib.Dec.{eqb, leb, ltb}
+use Rattle.words.specs.Layout.{entryAt}
+use Rattle.tables.specs.Table.{keyAt}
+use Rattle.objects.specs.Objects.{objectsBase, objectCount}
+use Rattle.form.specs.Thread.{live}
+
+-- an event's two flags
+unfoldable pub eventPasses : List ℕ → ℕ → Bool
+eventPasses w place = cond (ltb 1 (getD w (place + 2) 0)) false (leb (getD w (place + 3) 0) 1)
+
+-- document 01: stored numbers pass their checks, of an object
+unfoldable pub objectNumbers : List ℕ → ℕ → ℕ → Bool
+objectNumbers w base i =
+    let kind = getD w (entryAt base i + 1) 0 in
+    cond (eqb (keyAt w base i) 0) false (cond (eqb kind 0) true (cond (eqb kind 1) (eventPasses w (entryAt base i)) false))
+
+-- document 01: no key stands twice, for keys rise along the table
+unfoldable pub keyRises : List ℕ → ℕ → ℕ → Bool
+keyRises w base i = cond (eqb i 0) true (ltb (keyAt w base (i - 1)) (keyAt w base i))
+
+-- document 01: owners are live
+unfoldable pub ownerLives : List ℕ → ℕ → ℕ → Bool
+ownerLives w base i =
+    let owner = getD w (entryAt base i + 4) 0 in
+    cond (eqb (getD w (entryAt base i + 1) 0) 0) (cond (eqb owner 0) true (live w owner)) true
+
+unfoldable pub objectPasses : List ℕ → ℕ → ℕ → Bool
+objectPasses w base i = cond (objectNumbers w base i) (cond (keyRises w base i) (ownerLives w base i) false) false
+
+-- the `m` objects from place `i` on pass
+unfoldable pub objectsIn : ℕ → List ℕ → ℕ → ℕ → Bool
+objectsIn zero w base i = true
+objectsIn (suc m) w base i = cond (objectPasses w base i) (objectsIn m w base (i + 1)) false
+
+unfoldable pub objectsPass : List ℕ → Bool
+objectsPass w = objectsIn (objectCount w) w (objectsBase w) 0

@@ -1,0 +1,50 @@
+// Whether lent words are in form, by the sentence "Words are in form if .." of document 01, section "Limits". Each of its
+// clauses is a test of its own, named here. What is about one record is tested record by record, in one pass of each table.
+//
+//   long enough                      header::is_long_enough
+//   limits pass their checks         header::limits_pass
+//   stored numbers pass theirs       header::numbers_pass, thread::numbers_pass, object::numbers_pass
+//   no key stands twice              object::key_rises
+//   threads number 1 upward          nothing to test: a thread's number is the place of its record
+//   only the current one runs        thread::runs_if_current
+//   owners are live                  object::owner_lives
+//   waited objects exist             thread::waits_for_known
+//   no list names one twice          thread::waits_for_each_once
+//   sequences distinct, below next   chain::sequences_rise
+//   each chain holds its members     chain::waiters_stand_once, chain::ready_stand_once
+//
+// There are no timers and no DPCs yet: an object is a mutex or an event, and the count of DPCs is 0.
+ghost use mathlib.Core.Path.{_≡_};
+ghost use Rattle.form.specs.Form.{inForm};
+
+pub mod chain;
+pub mod header;
+pub mod object;
+pub mod thread;
+
+pub fn in_form(w: &[u64]) -> bool
+    ensures { λ r. ⌜ r ≡ inForm (now (w .entry)) ⌝ }
+{
+    if !header::limits_pass(w) {
+        return false;
+    }
+    if !header::is_long_enough(w) {
+        return false;
+    }
+    if !header::numbers_pass(w) {
+        return false;
+    }
+    if !thread::threads_pass(w) {
+        return false;
+    }
+    if !object::objects_pass(w) {
+        return false;
+    }
+    if !chain::sequences_rise(w) {
+        return false;
+    }
+    if !chain::waiters_stand_once(w) {
+        return false;
+    }
+    chain::ready_stand_once(w)
+}

@@ -1,0 +1,89 @@
+// The objects in form: each record's numbers, their order, and who owns the mutexes.
+ghost use mathlib.Core.Path.{_≡_};
+ghost use Rattle.form.specs.Object.{eventPasses, objectNumbers, keyRises, ownerLives, objectPasses, objectsPass};
+use super::thread;
+use words::layout;
+
+// An event's two flags.
+fn event_passes(w: &[u64], at: usize) -> bool
+    ensures { λ r. ⌜ r ≡ eventPasses (now (w .entry)) at ⌝ }
+{
+    if 1 < words::get_in(w, at, layout::MANUAL) {
+        return false;
+    }
+    words::get_in(w, at, layout::SIGNALED) <= 1
+}
+
+// Document 01: stored numbers pass their checks, of an object. Words that its kind does not have may be anything; a mutex
+// has its owner only, which is another clause's.
+fn numbers_pass(w: &[u64], base: usize, i: u64) -> bool
+    ensures { λ r. ⌜ r ≡ objectNumbers (now (w .entry)) base i ⌝ }
+{
+    let at = layout::entry_at(base, i);
+    if tables::key_at(w, base, i) == 0 {
+        return false;
+    }
+    let kind = words::get_in(w, at, layout::KIND);
+    if kind == objects::MUTEX {
+        return true;
+    }
+    if kind == objects::EVENT {
+        return event_passes(w, at);
+    }
+    false
+}
+
+// Document 01: no key stands twice, for keys rise along the table.
+fn key_rises(w: &[u64], base: usize, i: u64) -> bool
+    ensures { λ r. ⌜ r ≡ keyRises (now (w .entry)) base i ⌝ }
+{
+    if i == 0 {
+        return true;
+    }
+    tables::key_at(w, base, i - 1) < tables::key_at(w, base, i)
+}
+
+// Document 01: owners are live.
+fn owner_lives(w: &[u64], base: usize, i: u64) -> bool
+    ensures { λ r. ⌜ r ≡ ownerLives (now (w .entry)) base i ⌝ }
+{
+    let at = layout::entry_at(base, i);
+    let kind = words::get_in(w, at, layout::KIND);
+    if kind != objects::MUTEX {
+        return true;
+    }
+    let owner = words::get_in(w, at, layout::OWNER);
+    if owner == 0 {
+        return true;
+    }
+    thread::is_live(w, owner)
+}
+
+fn object_passes(w: &[u64], base: usize, i: u64) -> bool
+    ensures { λ r. ⌜ r ≡ objectPasses (now (w .entry)) base i ⌝ }
+{
+    if !numbers_pass(w, base, i) {
+        return false;
+    }
+    if !key_rises(w, base, i) {
+        return false;
+    }
+    owner_lives(w, base, i)
+}
+
+// Every object passes.
+pub fn objects_pass(w: &[u64]) -> bool
+    ensures { λ r. ⌜ r ≡ objectsPass (now (w .entry)) ⌝ }
+{
+    let base = objects::objects_base(w);
+    let mut i: u64 = 0;
+    let mut left = objects::count(w);
+    while 0 < left {
+        if !object_passes(w, base, i) {
+            return false;
+        }
+        i += 1;
+        left -= 1;
+    }
+    true
+}
