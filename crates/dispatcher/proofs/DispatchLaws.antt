@@ -1,0 +1,80 @@
+-- The laws of the loops, as the code counts, and the bounds that its calls need.
+use Prim.Native.Nat.{ℕ, zero, suc, _+_, _-_, _/_, _≤_, _<_}
+use native.Mathlib.Omega.{arith}
+use mathlib.Core.List.{List}
+use mathlib.Core.Bool.{Bool, cond, true, false}
+use mathlib.Core.Path.{_≡_, refl}
+use lib.ListN.{length}
+use lib.Dec.{leb}
+use borrow.Author.Tests.{eq-eqb, ne-eqb, leb-true}
+use Rattle.chains.specs.Chain.{nextOf}
+use Rattle.chains.specs.Ready.{waitersChain}
+use Rattle.dispatcher.specs.declared.dispatch.Due.{Due}
+use Rattle.dispatcher.specs.Wait.{pairCount}
+use Rattle.dispatcher.specs.Advance.{expired, expiredIn}
+use Rattle.dispatcher.specs.Dispatch.{dueAfter, soonestIn, isWaiting, noted, notedTo, listedIn, listedToIn}
+
+less-one : (k : ℕ) → suc k - 1 ≡ k
+less-one k = omega arith
+
+pub pairs-most : (list : List ℕ) → pairCount list ≤ 64
+unfolding pairCount
+pairs-most list = go (leb (length list / 2) 64) refl
+  where
+    go : (b : Bool) → leb (length list / 2) 64 ≡ b → cond b (length list / 2) 64 ≤ 64
+    go true e = leb-true _ _ e
+    go false e = omega arith
+
+pub expired-none : (m : ℕ) (w : List ℕ) (id time : ℕ) → m ≤ 0 → expiredIn m w id time ≡ w
+unfolding expiredIn
+expired-none zero w id time h = refl
+expired-none (suc m) w id time h = absurd (omega arith)
+
+pub expired-more : (m : ℕ) (w : List ℕ) (id time : ℕ) → 0 < m → expiredIn m w id time ≡ expiredIn (m - 1) (expired w id time) (id + 1) time
+unfolding expiredIn
+expired-more zero w id time h = absurd (omega arith)
+expired-more (suc m) w id time h = simp (less-one m)
+
+pub soonest-none : (k : ℕ) (w : List ℕ) (d : Due) (id : ℕ) → k ≤ 0 → soonestIn k w d id ≡ d
+unfolding soonestIn
+soonest-none zero w d id h = refl
+soonest-none (suc k) w d id h = absurd (omega arith)
+
+pub soonest-end : (k : ℕ) (w : List ℕ) (d : Due) (id : ℕ) → id ≡ 0 → soonestIn k w d id ≡ d
+unfolding soonestIn
+soonest-end zero w d id e = refl
+soonest-end (suc k) w d id e = simp (eq-eqb _ _ e)
+
+pub soonest-more : (k : ℕ) (w : List ℕ) (d : Due) (id : ℕ) → 0 < k → (id ≡ 0 → ⊥)
+    → soonestIn k w d id ≡ soonestIn (k - 1) w (dueAfter w d id) (nextOf w waitersChain id)
+unfolding soonestIn
+soonest-more zero w d id h n = absurd (omega arith)
+soonest-more (suc k) w d id h n = simp (ne-eqb _ _ n, less-one k)
+
+pub listed-none : (m : ℕ) (w out : List ℕ) (id k : ℕ) → m ≤ 0 → listedIn m w out id k ≡ out
+unfolding listedIn
+listed-none zero w out id k h = refl
+listed-none (suc m) w out id k h = absurd (omega arith)
+
+pub listed-more : (m : ℕ) (w out : List ℕ) (id k : ℕ) → 0 < m → listedIn m w out id k ≡ listedIn (m - 1) w (noted w out id k) (id + 1) (notedTo w id k)
+unfolding listedIn
+listed-more zero w out id k h = absurd (omega arith)
+listed-more (suc m) w out id k h = simp (less-one m)
+
+pub listed-to-none : (m : ℕ) (w : List ℕ) (id k : ℕ) → m ≤ 0 → listedToIn m w id k ≡ k
+unfolding listedToIn
+listed-to-none zero w id k h = refl
+listed-to-none (suc m) w id k h = absurd (omega arith)
+
+pub listed-to-more : (m : ℕ) (w : List ℕ) (id k : ℕ) → 0 < m → listedToIn m w id k ≡ listedToIn (m - 1) w (id + 1) (notedTo w id k)
+unfolding listedToIn
+listed-to-more zero w id k h = absurd (omega arith)
+listed-to-more (suc m) w id k h = simp (less-one m)
+
+pub noted-most : (w : List ℕ) (id k : ℕ) → notedTo w id k ≤ k + 1
+unfolding notedTo
+noted-most w id k = go (isWaiting w id)
+  where
+    go : (b : Bool) → cond b (k + 1) k ≤ k + 1
+    go true = omega arith
+    go false = omega arith

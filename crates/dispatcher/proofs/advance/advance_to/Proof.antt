@@ -1,0 +1,44 @@
+use borrow.Author.Tests.{lt-ltb, le-ltb}
+use Rattle.dispatcher.specs.Advance.{advanced}
+use borrow.Author.Needs.{needs}
+use Rattle.dispatcher.proofs.advance.advance_to.Statement.{statement}
+use Rattle.dispatcher.proofs.advance.advance_to.Tie as tie
+
+get-requires : tie.Need-get-requires
+get-requires c κs = search needs
+
+same-length : tie.Need-same-length
+same-length c = search needs
+
+returns : tie.Need-returns
+unfolding advanced
+returns c = simp (← (c .before .get .ensures), lt-ltb _ _ (c .if1 .taken))
+
+put-requires : tie.Need-put-requires
+put-requires c κs = search needs
+
+wake-requires : tie.Need-wake-requires
+wake-requires c κs = search needs
+
+expire-all-requires : tie.Need-expire-all-requires
+expire-all-requires c κs = search needs
+
+same-length-2 : tie.Need-same-length-2
+same-length-2 c = search needs
+
+returns-2 : tie.Need-returns-2
+unfolding advanced
+returns-2 c = simp (← (c .before .before .before .before .before .before .before .before .before .before .before .before .before .get .ensures), le-ltb _ _ (c .before .before .before .before .before .before .before .before .before .before .before .before .if1 .left)) (cc)
+
+pub advance-to-spec : {M : Type 1} → statement M
+advance-to-spec =
+    tie.close
+    (tie.spec
+    get-requires
+    same-length
+    returns
+    put-requires
+    wake-requires
+    expire-all-requires
+    same-length-2
+    returns-2)

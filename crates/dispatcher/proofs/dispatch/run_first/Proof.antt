@@ -1,0 +1,42 @@
+use Rattle.dispatcher.specs.Dispatch.{ran}
+use borrow.Author.Needs.{needs}
+use Rattle.dispatcher.proofs.dispatch.run_first.Statement.{statement}
+use Rattle.dispatcher.proofs.dispatch.run_first.Tie as tie
+
+ready-chain-requires : tie.Need-ready-chain-requires
+ready-chain-requires c κs = search needs
+
+first-of-requires : tie.Need-first-of-requires
+first-of-requires c κs = search needs
+
+read-thread-requires : tie.Need-read-thread-requires
+read-thread-requires c κs = search needs
+
+unplace-requires : tie.Need-unplace-requires
+unplace-requires c κs = search needs
+
+write-thread-requires : tie.Need-write-thread-requires
+write-thread-requires c κs = search needs
+
+put-requires : tie.Need-put-requires
+put-requires c κs = search needs
+
+same-length : tie.Need-same-length
+same-length c = search needs
+
+returns : tie.Need-returns
+unfolding ran
+returns c = cc
+
+pub run-first-spec : {M : Type 1} → statement M
+run-first-spec =
+    tie.close
+    (tie.spec
+    ready-chain-requires
+    first-of-requires
+    read-thread-requires
+    unplace-requires
+    write-thread-requires
+    put-requires
+    same-length
+    returns)

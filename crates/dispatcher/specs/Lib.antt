@@ -1,0 +1,4 @@
+pub mod Wait
+pub mod Advance
+pub mod Dispatch
+pub mod Read

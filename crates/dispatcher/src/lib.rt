@@ -1,0 +1,6 @@
+// Waiting, the passing of time, dispatch, and reading threads. The calls are total: words out of form get an answer too, if
+// no useful one.
+pub mod advance;
+pub mod dispatch;
+pub mod read;
+pub mod wait;
