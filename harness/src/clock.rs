@@ -1,8 +1,8 @@
 //! The clock: its seven words, its calls, and both sides of each call.
 pub mod bench;
 pub mod compare;
-mod edges;
-mod reference;
+pub mod edges;
+pub mod reference;
 pub mod sample;
 
 use crate::ffi;

@@ -20,3 +20,132 @@ unsafe extern "C" {
     pub fn clock_tick64(words: *const u64, length: usize, out: *mut u64, out_length: usize) -> u64;
     pub fn clock_tsc(words: *const u64, length: usize, out: *mut u64, out_length: usize) -> u64;
 }
+
+// The scheduler's words `w`, `n` of them, come first, and the answer `o`, `m` words, last.
+unsafe extern "C" {
+    pub fn scheduler_words_needed(
+        threads: u64,
+        objects: u64,
+        dpcs: u64,
+        o: *mut u64,
+        m: usize,
+    ) -> u64;
+    pub fn scheduler_open(
+        w: *mut u64,
+        n: usize,
+        priority: u64,
+        threads: u64,
+        objects: u64,
+        dpcs: u64,
+        o: *mut u64,
+        m: usize,
+    ) -> u64;
+
+    pub fn scheduler_current(w: *const u64, n: usize, o: *mut u64, m: usize) -> u64;
+    pub fn scheduler_create_thread(
+        w: *mut u64,
+        n: usize,
+        priority: u64,
+        o: *mut u64,
+        m: usize,
+    ) -> u64;
+    pub fn scheduler_priority(
+        w: *mut u64,
+        n: usize,
+        id: u64,
+        priority: u64,
+        o: *mut u64,
+        m: usize,
+    ) -> u64;
+    pub fn scheduler_yield_current(w: *mut u64, n: usize, o: *mut u64, m: usize) -> u64;
+    pub fn scheduler_terminate(w: *mut u64, n: usize, status: u32, o: *mut u64, m: usize) -> u64;
+
+    pub fn scheduler_initialize_mutex(
+        w: *mut u64,
+        n: usize,
+        key: u64,
+        o: *mut u64,
+        m: usize,
+    ) -> u64;
+    pub fn scheduler_adopt_mutex(
+        w: *mut u64,
+        n: usize,
+        key: u64,
+        owned: u64,
+        owner: u64,
+        o: *mut u64,
+        m: usize,
+    ) -> u64;
+    pub fn scheduler_mutex_owner(w: *const u64, n: usize, key: u64, o: *mut u64, m: usize) -> u64;
+    pub fn scheduler_mutex_waiters(w: *const u64, n: usize, key: u64, o: *mut u64, m: usize)
+    -> u64;
+    pub fn scheduler_release_mutex(w: *mut u64, n: usize, key: u64, o: *mut u64, m: usize) -> u64;
+
+    pub fn scheduler_initialize_event(
+        w: *mut u64,
+        n: usize,
+        key: u64,
+        manual: u64,
+        signaled: u64,
+        o: *mut u64,
+        m: usize,
+    ) -> u64;
+    pub fn scheduler_set_event(w: *mut u64, n: usize, key: u64, o: *mut u64, m: usize) -> u64;
+    pub fn scheduler_reset_event(w: *mut u64, n: usize, key: u64, o: *mut u64, m: usize) -> u64;
+    pub fn scheduler_event_state(w: *const u64, n: usize, key: u64, o: *mut u64, m: usize) -> u64;
+    pub fn scheduler_event_states(
+        w: *const u64,
+        n: usize,
+        position: u64,
+        o: *mut u64,
+        m: usize,
+    ) -> u64;
+    pub fn scheduler_require_event_release(
+        w: *const u64,
+        n: usize,
+        base: u64,
+        size: u64,
+        layout: u64,
+        o: *mut u64,
+        m: usize,
+    ) -> u64;
+    pub fn scheduler_retire_event_backing(
+        w: *mut u64,
+        n: usize,
+        base: u64,
+        size: u64,
+        layout: u64,
+        o: *mut u64,
+        m: usize,
+    ) -> u64;
+
+    pub fn scheduler_wait(
+        w: *mut u64,
+        n: usize,
+        list: *const u64,
+        list_length: usize,
+        all: u64,
+        timed: u64,
+        deadline: u64,
+        irql: u8,
+        o: *mut u64,
+        m: usize,
+    ) -> u64;
+    pub fn scheduler_delay_until(
+        w: *mut u64,
+        n: usize,
+        deadline: u64,
+        irql: u8,
+        o: *mut u64,
+        m: usize,
+    ) -> u64;
+    pub fn scheduler_advance_to(w: *mut u64, n: usize, time: u64, o: *mut u64, m: usize) -> u64;
+    pub fn scheduler_dispatch(
+        w: *mut u64,
+        n: usize,
+        waiting: *mut u64,
+        waiting_length: usize,
+        o: *mut u64,
+        m: usize,
+    ) -> u64;
+}

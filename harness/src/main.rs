@@ -4,16 +4,20 @@ mod clock;
 mod ffi;
 mod quiet;
 mod random;
+mod scheduler;
+mod script;
 mod tally;
 
 use random::Random;
+use std::path::Path;
 use std::process::ExitCode;
 use std::{env, fs};
 
 const CALLS: u64 = 1_000_000;
 const SEED: u64 = 1;
-const USAGE: &str = "usage: run [CALLS [SEED]]
+const USAGE: &str = "usage: run [--only clock|scheduler] [CALLS [SEED]]
        run --sample STEPS FILE [SEED]
+       run --scripts COUNT FOLDER [SEED]
        bench";
 
 fn main() -> ExitCode {
@@ -27,10 +31,10 @@ fn main() -> ExitCode {
         }
         ["--sample", steps, file] => sample(steps, file, None),
         ["--sample", steps, file, seed] => sample(steps, file, Some(seed)),
-        [] => compare(None, None),
-        [calls] => compare(Some(calls), None),
-        [calls, seed] => compare(Some(calls), Some(seed)),
-        _ => Err(USAGE.to_string()),
+        ["--scripts", count, folder] => scripts(count, folder, None),
+        ["--scripts", count, folder, seed] => scripts(count, folder, Some(seed)),
+        ["--only", part, ref rest @ ..] => compare(&[part], rest),
+        ref rest => compare(&["clock", "scheduler"], rest),
     };
     match done {
         Ok(()) => ExitCode::SUCCESS,
@@ -41,19 +45,30 @@ fn main() -> ExitCode {
     }
 }
 
-fn compare(calls: Option<&str>, seed: Option<&str>) -> Result<(), String> {
-    let calls = number(calls, CALLS)?;
-    let seed = number(seed, SEED)?;
-    println!("clock, seed {seed}");
-    let tally = clock::compare::run(calls, &Random::new(seed))?;
-    print!("{tally}");
-    println!("no other difference");
+fn compare(parts: &[&str], rest: &[&str]) -> Result<(), String> {
+    let (calls, seed) = match *rest {
+        [] => (CALLS, SEED),
+        [calls] => (number(calls)?, SEED),
+        [calls, seed] => (number(calls)?, number(seed)?),
+        _ => return Err(USAGE.to_string()),
+    };
+    for part in parts {
+        let random = Random::new(seed);
+        let heading = format!("{part}, seed {seed}");
+        let tally = match *part {
+            "clock" => clock::compare::run(calls, &random).map(|tally| tally.to_string()),
+            "scheduler" => scheduler::compare::run(calls, &random).map(|tally| tally.to_string()),
+            _ => return Err(USAGE.to_string()),
+        };
+        let tally = tally.map_err(|difference| format!("{heading}\n{difference}"))?;
+        println!("{heading}\n{tally}no other difference");
+    }
     Ok(())
 }
 
 fn sample(steps: &str, file: &str, seed: Option<&str>) -> Result<(), String> {
-    let steps = number(Some(steps), 0)? as usize;
-    let seed = number(seed, SEED)?;
+    let steps = number(steps)? as usize;
+    let seed = seed.map_or(Ok(SEED), number)?;
     let lines = clock::sample::lines(steps, &Random::new(seed))?;
     let text: String = lines.iter().map(|line| format!("{line}\n")).collect();
     fs::write(file, text).map_err(|error| format!("{file}: {error}"))?;
@@ -61,14 +76,19 @@ fn sample(steps: &str, file: &str, seed: Option<&str>) -> Result<(), String> {
     Ok(())
 }
 
+fn scripts(count: &str, folder: &str, seed: Option<&str>) -> Result<(), String> {
+    let seed = seed.map_or(Ok(SEED), number)?;
+    script::write(number(count)?, Path::new(folder), &Random::new(seed))
+}
+
 fn benchmark() {
     bench::heading();
     clock::bench::run();
+    println!();
+    scheduler::bench::run();
 }
 
-/// The number that `word` tells, or `usual` where there is none.
-fn number(word: Option<&str>, usual: u64) -> Result<u64, String> {
-    let Some(word) = word else { return Ok(usual) };
+fn number(word: &str) -> Result<u64, String> {
     word.parse()
         .map_err(|_| format!("not a number: {word}\n{USAGE}"))
 }

@@ -1,24 +1,47 @@
 //! How many calls were compared, what they answered, and where the two sides differ as listed.
-use std::collections::{BTreeMap, BTreeSet};
+use std::collections::BTreeMap;
 use std::fmt;
+
+/// What a call answered.
+#[derive(Clone, Copy, Debug, PartialEq, Eq, PartialOrd, Ord)]
+pub enum Kind {
+    Accepted(&'static str),
+    Refused(u64),
+}
+
+impl Kind {
+    /// The answer of a function that only returns a number.
+    pub fn of(number: u64) -> Self {
+        match number {
+            0 => Self::Accepted("done"),
+            _ => Self::Refused(number),
+        }
+    }
+}
+
+impl fmt::Display for Kind {
+    fn fmt(&self, f: &mut fmt::Formatter<'_>) -> fmt::Result {
+        match self {
+            Self::Accepted(answer) => f.write_str(answer),
+            Self::Refused(number) => write!(f, "refused {number}"),
+        }
+    }
+}
+
+type Counts = BTreeMap<Kind, u64>;
 
 #[derive(Default)]
 pub struct Tally {
     total: u64,
-    answers: BTreeMap<&'static str, BTreeMap<u64, u64>>,
+    answers: BTreeMap<&'static str, Counts>,
     differences: BTreeMap<&'static str, u64>,
 }
 
 impl Tally {
-    /// Counts a call that answered `number` (0: done).
-    pub fn count(&mut self, call: &'static str, number: u64, difference: Option<&'static str>) {
+    pub fn count(&mut self, call: &'static str, answer: Kind, difference: Option<&'static str>) {
         self.total += 1;
-        *self
-            .answers
-            .entry(call)
-            .or_default()
-            .entry(number)
-            .or_default() += 1;
+        let counts = self.answers.entry(call).or_default();
+        *counts.entry(answer).or_default() += 1;
         if let Some(difference) = difference {
             *self.differences.entry(difference).or_default() += 1;
         }
@@ -31,37 +54,29 @@ impl Tally {
 
 impl fmt::Display for Tally {
     fn fmt(&self, f: &mut fmt::Formatter<'_>) -> fmt::Result {
-        let numbers: BTreeSet<u64> = self
-            .answers
-            .values()
-            .flat_map(|by_number| by_number.keys().copied())
-            .collect();
-        let row = |f: &mut fmt::Formatter<'_>, name: &str, count: &dyn Fn(u64) -> u64| {
-            write!(f, "{name:<22}")?;
-            write!(f, "{:>10}", numbers.iter().map(|n| count(*n)).sum::<u64>())?;
-            for number in &numbers {
-                write!(f, "{:>12}", count(*number))?;
-            }
-            writeln!(f)
-        };
-
-        write!(f, "{:<22}{:>10}", "", "calls")?;
-        for number in &numbers {
-            match number {
-                0 => write!(f, "{:>12}", "done")?,
-                _ => write!(f, "{:>12}", format!("refused {number}"))?,
+        let mut all = Counts::new();
+        for counts in self.answers.values() {
+            for (answer, count) in counts {
+                *all.entry(*answer).or_default() += count;
             }
         }
-        writeln!(f)?;
-        for (call, by_number) in &self.answers {
-            row(f, call, &|n| by_number.get(&n).copied().unwrap_or(0))?;
+        writeln!(f, "{:<22}{:>10}  by answer", "", "calls")?;
+        for (call, counts) in &self.answers {
+            row(f, call, counts)?;
         }
-        row(f, "all", &|n| {
-            self.answers.values().filter_map(|by| by.get(&n)).sum()
-        })?;
+        row(f, "all", &all)?;
         for (difference, count) in &self.differences {
             writeln!(f, "listed difference, {count} times: {difference}")?;
         }
         Ok(())
     }
+}
+
+fn row(f: &mut fmt::Formatter<'_>, name: &str, counts: &Counts) -> fmt::Result {
+    let total: u64 = counts.values().sum();
+    let counts: Vec<String> = counts
+        .iter()
+        .map(|(answer, count)| format!("{answer}: {count}"))
+        .collect();
+    writeln!(f, "{name:<22}{total:>10}  {}", counts.join(", "))
 }

@@ -4,15 +4,21 @@ use native.Mathlib.Omega.{arith}
 use mathlib.Core.List.{List}
 use mathlib.Core.Bool.{Bool, cond, true, false}
 use mathlib.Core.Path.{_≡_, refl}
-use lib.ListN.{length}
+use lib.ListN.{length, set}
 use lib.Dec.{leb}
 use borrow.Author.Tests.{eq-eqb, ne-eqb, leb-true}
-use Rattle.chains.specs.Chain.{nextOf}
-use Rattle.chains.specs.Ready.{waitersChain}
+use Rattle.words.specs.Layout as at
+use Rattle.chains.specs.declared.Chain.{Chain}
+use Rattle.chains.specs.Chain.{firstOf, nextOf}
+use Rattle.chains.specs.Ready.{readyChain, waitersChain, unplaced}
+use Rattle.threads.specs.declared.Thread.{Thread}
+use Rattle.threads.specs.Thread.{threadOf, putThread}
+use Rattle.answers.specs.declared.Answer.the-variants as answer
+use Rattle.answers.specs.Outcome.{outcome}
 use Rattle.dispatcher.specs.declared.dispatch.Due.{Due}
 use Rattle.dispatcher.specs.Wait.{pairCount}
 use Rattle.dispatcher.specs.Advance.{expired, expiredIn}
-use Rattle.dispatcher.specs.Dispatch.{dueAfter, soonestIn, isWaiting, noted, notedTo, listedIn, listedToIn}
+use Rattle.dispatcher.specs.Dispatch.{dueAfter, soonestIn, ran, isWaiting, noted, notedTo, listedIn, listedToIn}
 
 less-one : (k : ℕ) → suc k - 1 ≡ k
 less-one k = omega arith
@@ -78,3 +84,10 @@ noted-most w id k = go (isWaiting w id)
     go : (b : Bool) → cond b (k + 1) k ≤ k + 1
     go true = omega arith
     go false = omega arith
+
+-- what the code of run_first does, step by step
+pub run-steps : (w : List ℕ) (p : ℕ) (c : Chain) (id : ℕ) (t : Thread) (u v x : List ℕ) → c ≡ readyChain p → id ≡ firstOf w c
+    → t ≡ threadOf w id → u ≡ unplaced w p id → v ≡ putThread u id (record { priority = t .priority; state = 1; result = t .result; status = t .status })
+    → x ≡ set v at.current id → outcome (answer.Run id) x ≡ ran w p
+unfolding ran
+run-steps w p c id t u v x chain first read out put now = simp (now, put, out, read, first, chain)

@@ -1,1 +1,2 @@
 pub mod ClockWords
+pub mod SchedulerAnswer

@@ -2,7 +2,7 @@
 use super::reference::{Answer, Difference, Reference, created};
 use super::{Call, FORM, WORDS, edges, in_form, proved};
 use crate::random::Random;
-use crate::tally::Tally;
+use crate::tally::{Kind, Tally};
 use std::fmt;
 
 /// What the slices hold where no call may write.
@@ -182,7 +182,7 @@ impl<'a> Pair<'a> {
         }
         self.history.push(Event::Answer { number });
         let difference = expected.difference.map(Difference::text);
-        self.tally.count(call.name(), number, difference);
+        self.tally.count(call.name(), Kind::of(number), difference);
         Ok(())
     }
 

@@ -3,7 +3,7 @@
 use super::reference::{Answer, Difference, Reference};
 use super::{BIAS, Call, Configuration, Words, edges, in_form};
 use crate::random::Random;
-use crate::tally::Tally;
+use crate::tally::{self, Tally};
 use std::collections::BTreeMap;
 use std::fmt;
 
@@ -42,7 +42,7 @@ pub fn tally(lines: &[Line]) -> Tally {
     for line in lines {
         if let Step::Call(call) = line.step {
             let difference = line.answer.difference.map(Difference::text);
-            tally.count(call.name(), line.answer.number, difference);
+            tally.count(call.name(), tally::Kind::of(line.answer.number), difference);
         }
     }
     tally

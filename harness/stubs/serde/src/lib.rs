@@ -2,20 +2,47 @@
 //! so that a test can read and set what no call of the type shows. It adds nothing else.
 use proc_macro::{Delimiter, TokenStream, TokenTree};
 
+/// Names and types.
+type Fields = &'static [(&'static str, &'static str)];
+
+/// A struct that derives no `Serialize` is lent beside one of its module that does: that one's
+/// name, its own, and the fields.
+const BESIDE: [(&str, &str, Fields); 1] = [(
+    "Thread",
+    "Scheduler",
+    &[
+        ("ready", "BTreeMap<u8, VecDeque<ThreadId>>"),
+        ("sequence", "u64"),
+        ("mutexes", "BTreeMap<u64, Option<ThreadId>>"),
+        ("now", "u64"),
+    ],
+)];
+
 #[proc_macro_derive(Serialize, attributes(serde))]
 pub fn serialize(item: TokenStream) -> TokenStream {
     let Some((name, fields)) = braced_struct(item) else {
         return TokenStream::new();
     };
-    let lenders: String = private_fields(fields)
+    let own = private_fields(fields);
+    let own = own
         .iter()
+        .map(|(field, kind)| (field.as_str(), kind.as_str()));
+    let mut code = lenders(&name, own);
+    for (neighbour, other, fields) in BESIDE {
+        if neighbour == name {
+            code += &lenders(other, fields.iter().copied());
+        }
+    }
+    code.parse().expect("functions that lend a field")
+}
+
+fn lenders<'a>(name: &str, fields: impl Iterator<Item = (&'a str, &'a str)>) -> String {
+    let lenders: String = fields
         .map(|(field, kind)| {
             format!("pub fn {field}_mut(&mut self) -> &mut {kind} {{ &mut self.{field} }}")
         })
         .collect();
     format!("#[allow(dead_code, private_interfaces)] impl {name} {{ {lenders} }}")
-        .parse()
-        .expect("functions that lend a field")
 }
 
 /// The name and the fields of `struct NAME { FIELDS }`; nothing for an enum or any other struct.

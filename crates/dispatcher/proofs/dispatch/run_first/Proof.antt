@@ -1,4 +1,5 @@
-use Rattle.dispatcher.specs.Dispatch.{ran}
+use denote.Ref.{now}
+use Rattle.dispatcher.proofs.DispatchLaws.{run-steps}
 use borrow.Author.Needs.{needs}
 use Rattle.dispatcher.proofs.dispatch.run_first.Statement.{statement}
 use Rattle.dispatcher.proofs.dispatch.run_first.Tie as tie
@@ -25,8 +26,7 @@ same-length : tie.Need-same-length
 same-length c = search needs
 
 returns : tie.Need-returns
-unfolding ran
-returns c = cc
+returns c = run-steps (now (c .before .before .before .before .before .before .before .before .before .before .before .before .before .before .before .before .before .before .args .w)) (c .before .before .before .before .before .before .before .before .before .before .before .before .before .before .before .before .before .before .args .p) (c .before .before .before .before .before .before .before .before .before .before .before .before .before .before .before .ready-chain .result) (c .before .before .before .before .before .before .before .before .before .before .before .before .before .before .first-of .result) (c .before .before .before .before .before .before .before .before .before .before .before .before .read-thread .result) (c .before .before .before .before .before .before .before .before .before .before .unplace .last .0) (c .before .before .before .before .before .before .write-thread .last .0) (c .before .before .put .last .0) (c .before .before .before .before .before .before .before .before .before .before .before .before .before .before .before .ready-chain .ensures) (c .before .before .before .before .before .before .before .before .before .before .before .before .before .before .first-of .ensures) (c .before .before .before .before .before .before .before .before .before .before .before .before .read-thread .ensures) (c .before .before .before .before .before .before .before .before .before .before .unplace .ensures) (c .before .before .before .before .before .before .write-thread .ensures) (c .before .before .put .ensures)
 
 pub run-first-spec : {M : Type 1} → statement M
 run-first-spec =

@@ -1,0 +1,169 @@
+//! Random calls that mean something to the state they meet, with edges over-represented.
+mod arguments;
+mod lists;
+
+use super::state::State;
+use super::{Call, Limits};
+use crate::random::Random;
+
+/// The bytes of an event, by which most keys are apart.
+const LAYOUT: u64 = 24;
+/// A prime above the number of keys.
+const STRIDE: usize = 7919;
+const EDGES: [u64; 8] = [
+    0,
+    1,
+    2,
+    1 << 32,
+    1 << 63,
+    u64::MAX - LAYOUT,
+    u64::MAX - 1,
+    u64::MAX,
+];
+
+pub struct Draw<'a> {
+    random: &'a Random,
+    keys: Vec<u64>,
+}
+
+impl<'a> Draw<'a> {
+    /// Calls on about `size` keys.
+    pub fn new(random: &'a Random, size: u64) -> Self {
+        let last = u64::MAX - LAYOUT * (size + 1);
+        let base = random.pick(&[1, 4096, 4096, 4096, 1 << 32, last]);
+        let mut keys: Vec<u64> = (0..size).map(|index| base + LAYOUT * index).collect();
+        if random.once_in(4) {
+            keys.extend(EDGES);
+        }
+        Self { random, keys }
+    }
+
+    /// A call that adds a thread or an object. Rising indices go through all keys, in no order.
+    pub fn addition(&self, index: usize, limits: Limits) -> Call {
+        if self.random.below(limits.threads + limits.objects) < limits.threads {
+            return Call::CreateThread {
+                priority: self.good_priority(),
+            };
+        }
+        let key = self.keys[index * STRIDE % self.keys.len()];
+        match self.random.below(3) {
+            0 => Call::InitializeMutex { key },
+            _ => self.initialize_event(key),
+        }
+    }
+
+    pub fn call(&self, state: &State, limits: Limits) -> Call {
+        let random = self.random;
+        if state.current.is_none() && random.below(5) < 3 {
+            return self.onward(state);
+        }
+        match random.below(1000) {
+            0..=4 => Call::WordsNeeded(self.limits(limits)),
+            5..=8 => Call::Open {
+                priority: self.priority(),
+                limits: self.limits(limits),
+            },
+            9..=14 => Call::Current,
+            15..=64 => Call::CreateThread {
+                priority: self.priority(),
+            },
+            65..=109 => Call::Priority {
+                id: self.thread(state),
+                priority: self.priority(),
+            },
+            110..=144 => Call::YieldCurrent,
+            145..=169 => Call::Terminate {
+                status: random.pick(&[0, 1, u32::MAX, random.next() as u32]),
+            },
+            170..=204 => Call::InitializeMutex { key: self.key() },
+            205..=244 => self.adopt_mutex(state),
+            245..=254 => Call::MutexOwner {
+                key: self.mutex(state),
+            },
+            255..=264 => Call::MutexWaiters {
+                key: self.mutex(state),
+            },
+            265..=339 => Call::ReleaseMutex {
+                key: self.own_mutex(state),
+            },
+            340..=394 => self.initialize_event(self.key()),
+            395..=459 => Call::SetEvent {
+                key: self.event(state),
+            },
+            460..=489 => Call::ResetEvent {
+                key: self.event(state),
+            },
+            490..=499 => Call::EventState {
+                key: self.event(state),
+            },
+            500..=509 => Call::EventStates {
+                position: self.position(state),
+            },
+            510..=529 => Call::RequireEventRelease(self.backing(state)),
+            530..=549 => Call::RetireEventBacking(self.backing(state)),
+            550..=859 => self.wait(state),
+            860..=899 => Call::DelayUntil {
+                deadline: self.time(state),
+                irql: self.irql(),
+            },
+            900..=949 => Call::AdvanceTo {
+                time: self.time(state),
+            },
+            _ => Call::Dispatch,
+        }
+    }
+
+    /// A call that is likely to bring a scheduler on where no thread runs.
+    fn onward(&self, state: &State) -> Call {
+        let soonest = state.waits().filter_map(|wait| wait.deadline).min();
+        match (self.random.below(8), soonest) {
+            (0, _) => self.initialize_event(self.key()),
+            (1, _) => Call::SetEvent {
+                key: self.event(state),
+            },
+            (2, Some(time)) => Call::AdvanceTo { time },
+            (3, Some(_)) => Call::AdvanceTo {
+                time: self.time(state),
+            },
+            (2, None) => Call::CreateThread {
+                priority: self.good_priority(),
+            },
+            _ => Call::Dispatch,
+        }
+    }
+
+    fn wait(&self, state: &State) -> Call {
+        Call::Wait {
+            list: self.list(state),
+            all: self.random.once_in(3),
+            timed: self.random.once_in(2),
+            deadline: self.time(state),
+            irql: self.irql(),
+        }
+    }
+
+    fn adopt_mutex(&self, state: &State) -> Call {
+        let key = match self.random.below(3) {
+            0 => self.mutex(state),
+            _ => self.key(),
+        };
+        let known = state.mutexes.iter().find(|(known, _)| *known == key);
+        let owner = match known {
+            Some((_, owner)) if self.random.once_in(2) => *owner,
+            _ => self.random.once_in(2).then_some(self.thread(state)),
+        };
+        Call::AdoptMutex {
+            key,
+            owned: owner.is_some(),
+            owner: owner.unwrap_or(self.random.pick(&[0, 1, u64::MAX])),
+        }
+    }
+
+    fn initialize_event(&self, key: u64) -> Call {
+        Call::InitializeEvent {
+            key,
+            manual: self.random.once_in(2),
+            signaled: self.random.once_in(3),
+        }
+    }
+}
