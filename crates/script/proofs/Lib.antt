@@ -1,0 +1,10 @@
+pub mod Cases
+pub mod WordLaws
+pub mod NumberLaws
+pub mod SignedLaws
+pub mod WaitLaws
+pub mod PrintLaws
+pub mod BareLaws
+pub mod RoundTrip
+pub mod RoomLaws
+pub mod Samples

@@ -1,0 +1,9 @@
+pub mod Words
+pub mod Numbers
+pub mod Names
+pub mod Arguments
+pub mod Wait
+pub mod Clock
+pub mod Scheduler
+pub mod Line
+pub mod Print
