@@ -18,6 +18,8 @@ use Rattle.answers.specs.Outcome.{outcome}
 use Rattle.dispatcher.specs.declared.dispatch.Due.{Due}
 use Rattle.dispatcher.specs.Wait.{pairCount}
 use Rattle.dispatcher.specs.Advance.{expired, expiredIn}
+use Rattle.words.specs.Layout.{entryAt}
+use Rattle.dispatcher.specs.TimerDue.{dueWith, soonestTimerIn}
 use Rattle.dispatcher.specs.Dispatch.{dueAfter, soonestIn, ran, isWaiting, noted, notedTo, listedIn, listedToIn}
 
 less-one : (k : ℕ) → suc k - 1 ≡ k
@@ -91,3 +93,15 @@ pub run-steps : (w : List ℕ) (p : ℕ) (c : Chain) (id : ℕ) (t : Thread) (u 
     → x ≡ set v at.current id → outcome (answer.Run id) x ≡ ran w p
 unfolding ran
 run-steps w p c id t u v x chain first read out put now = simp (now, put, out, read, first, chain)
+
+-- ---- the timers
+
+pub timer-none : (m : ℕ) (w : List ℕ) (d : Due) (base i : ℕ) → m ≤ 0 → soonestTimerIn m w d base i ≡ d
+unfolding soonestTimerIn
+timer-none zero w d base i h = refl
+timer-none (suc m) w d base i h = absurd (omega arith)
+
+pub timer-more : (m : ℕ) (w : List ℕ) (d : Due) (base i : ℕ) → 0 < m → soonestTimerIn m w d base i ≡ soonestTimerIn (m - 1) w (dueWith w d (entryAt base i)) base (i + 1)
+unfolding soonestTimerIn
+timer-more zero w d base i h = absurd (omega arith)
+timer-more (suc m) w d base i h = simp (less-one m)

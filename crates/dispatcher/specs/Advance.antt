@@ -11,7 +11,8 @@ use Rattle.chains.specs.Ready.{waitersChain}
 use Rattle.threads.specs.Thread.{threadCount}
 use Rattle.waits.specs.Wake.{madeReady, awake}
 use Rattle.answers.specs.declared.Answer.the-variants as answer
-use Rattle.answers.specs.Outcome.{Outcome, outcome}
+use Rattle.answers.specs.Outcome.{Outcome, outcome, unless}
+use Rattle.expiry.specs.Advance.{expiryRefusal, expiryWords}
 
 -- the thread waits (state 3) with a deadline at or before the time
 unfoldable pub overdue : List ℕ → ℕ → ℕ → Bool
@@ -30,7 +31,9 @@ expiredIn (suc m) w id time = expiredIn m (expired w id time) (id + 1) time
 unfoldable pub expiredAll : List ℕ → ℕ → List ℕ
 expiredAll w time = expiredIn (threadCount w) w 1 time
 
--- 12 time goes back
+-- 12 time goes back; then what refuses an expiry. Document 01: expires timers, sets the time, wakes by objects, then times out
+-- deadlines
 unfoldable pub advanced : List ℕ → ℕ → Outcome
 advanced w time =
-    cond (ltb time (getD w at.now 0)) (outcome (answer.Refused 12) w) (outcome answer.Done (expiredAll (awake (set w at.now time)) time))
+    cond (ltb time (getD w at.now 0)) (outcome (answer.Refused 12) w)
+    (unless (expiryRefusal w time) w (outcome answer.Done (expiredAll (awake (set (expiryWords w time) at.now time)) time)))

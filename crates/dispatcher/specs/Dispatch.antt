@@ -1,11 +1,9 @@
--- Dispatch: the current thread; else the first of the highest ready queue, made current; else the smallest waiting
--- deadline; else finished, or deadlocked with the waiting numbers rising.
+-- The parts of a dispatch: the smallest waiting deadline, the first of a queue made current, the waiting numbers, and what a dispatch answers.
 use mathlib.Core.Bool.{Bool, cond, true, false}
 use Prim.Native.Nat.{ℕ, zero, suc, _+_}
 use mathlib.Core.List.{List}
-use lib.ListN.{getD, set, length}
-use lib.Dec.{eqb, leb, ltb}
-use Rattle.words.specs.Word.{topBit}
+use lib.ListN.{getD, set}
+use lib.Dec.{eqb, leb}
 use Rattle.words.specs.Layout as at
 use Rattle.words.specs.Layout.{threadAt}
 use Rattle.chains.specs.Chain.{firstOf, nextOf}
@@ -73,7 +71,7 @@ listed w out = listedIn (threadCount w) w out 1 0
 unfoldable pub listedTo : List ℕ → ℕ
 listedTo w = listedToIn (threadCount w) w 1 0
 
--- ---- the call
+-- ---- what a dispatch answers
 
 pub record Dispatched : Type 0 where
   pub answer : Answer
@@ -82,15 +80,3 @@ pub record Dispatched : Type 0 where
 
 abbrev pub told : Answer → List ℕ → List ℕ → Dispatched
 told a w out = record { answer = a; words = w; output = out }
-
-unfoldable pub dispatched : List ℕ → List ℕ → Dispatched
-dispatched w out =
-    let id = getD w at.current 0 in
-    let p = topBit (getD w at.ready 0) in
-    cond (ltb (length out) (getD w at.threadLimit 0)) (told (answer.Refused 27) w out)
-    (cond (eqb id 0)
-    (cond (eqb p 0)
-    (cond (soonest w .some) (told (answer.AdvanceTo (soonest w .at)) w out)
-    (cond (eqb (listedTo w) 0) (told answer.Finished w (listed w out)) (told (answer.Deadlocked (listedTo w)) w (listed w out))))
-    (told (ran w p .answer) (ran w p .words) out))
-    (told (answer.Run id) w out))

@@ -1,4 +1,4 @@
-// The passing of time: wakes by objects, then timeouts by thread number.
+// The passing of time: timers expire, then wakes by objects, then timeouts by thread number.
 ghost use mathlib.Core.Path.{_≡_};
 ghost use Rattle.answers.specs.Outcome.{outcome};
 ghost use Rattle.dispatcher.specs.Advance.{overdue, expired, expiredAll, advanced};
@@ -43,12 +43,16 @@ fn expire_all(w: &mut [u64], time: u64)
     }
 }
 
-// Sets the time, wakes by objects, then times out deadlines.
+// Expires timers, sets the time, wakes by objects, then times out deadlines.
 pub fn advance_to(w: &mut [u64], time: u64) -> Answer
     ensures { λ r. ⌜ outcome r (now (w .exit)) ≡ advanced (now (w .entry)) time ⌝ }
 {
     if time < words::get(w, layout::NOW) {
         return Answer::Refused(12);
+    }
+    let refusal = expiry::advance::expire_timers(w, time);
+    if refusal != 0 {
+        return Answer::Refused(refusal);
     }
     words::put(w, layout::NOW, time);
     wake::wake(w);

@@ -2,7 +2,9 @@
 ghost use mathlib.Core.Path.{_≡_};
 ghost use Prim.Native.Nat.{_≤_};
 ghost use Rattle.answers.specs.Outcome.{outcome};
-ghost use Rattle.dispatcher.specs.Dispatch.{noDue, sooner, dueAfter, soonest, ran, isWaiting, noted, notedTo, listed, listedTo, told, dispatched};
+ghost use Rattle.dispatcher.specs.Dispatched.{dispatched};
+ghost use Rattle.dispatcher.specs.Dispatch.{noDue, sooner, dueAfter, soonest, ran, isWaiting, noted, notedTo, listed, listedTo, told};
+use super::timer_due::next_time;
 use answers::Answer;
 use chains::ready;
 use words::layout;
@@ -20,7 +22,7 @@ fn no_due() -> Due
 }
 
 // The sooner of what was seen and one more deadline, which there is where `timed` is not 0.
-fn sooner(d: Due, timed: u64, deadline: u64) -> Due
+pub fn sooner(d: Due, timed: u64, deadline: u64) -> Due
     ensures { λ r. ⌜ r ≡ sooner d timed deadline ⌝ }
 {
     if timed == 0 {
@@ -53,7 +55,7 @@ fn due_after(w: &[u64], d: Due, id: u64) -> Due
 }
 
 // The smallest deadline of the waiting threads.
-fn soonest(w: &[u64]) -> Due
+pub fn soonest(w: &[u64]) -> Due
     ensures { λ r. ⌜ r ≡ soonest (now (w .entry)) ⌝ }
 {
     let mut d = no_due();
@@ -124,8 +126,8 @@ fn list_waiting(w: &[u64], out: &mut [u64]) -> u64
     k as u64
 }
 
-// The current thread; else the first of the highest ready queue, made current; else the smallest waiting deadline; else
-// finished, or deadlocked with the waiting numbers in `out`.
+// The current thread; else the first of the highest ready queue, made current; else the smallest waiting deadline or counted
+// timer's due; else finished, or deadlocked with the waiting numbers in `out`.
 pub fn dispatch(w: &mut [u64], out: &mut [u64]) -> Answer
     ensures { λ r. ⌜ told r (now (w .exit)) (now (out .exit)) ≡ dispatched (now (w .entry)) (now (out .entry)) ⌝ }
 {
@@ -140,7 +142,7 @@ pub fn dispatch(w: &mut [u64], out: &mut [u64]) -> Answer
     if p != 0 {
         return run_first(w, p);
     }
-    let d = soonest(w);
+    let d = next_time(w);
     if d.some {
         return Answer::AdvanceTo(d.at);
     }

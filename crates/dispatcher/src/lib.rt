@@ -3,4 +3,5 @@
 pub mod advance;
 pub mod dispatch;
 pub mod read;
+pub mod timer_due;
 pub mod wait;

@@ -5,7 +5,8 @@ use Prim.Native.Nat.{ℕ}
 use Rattle.answers.specs.declared.Answer.{Answer}
 use Rattle.answers.specs.declared.Answer.the-variants.{Refused}
 use Rattle.answers.specs.Outcome.{Outcome, outcome}
-use Rattle.dispatcher.specs.Dispatch.{Dispatched, told, dispatched}
+use Rattle.dispatcher.specs.Dispatch.{Dispatched, told}
+use Rattle.dispatcher.specs.Dispatched.{dispatched}
 use Rattle.form.specs.Form.{inForm}
 
 unfoldable pub guarded : List ℕ → Outcome → Outcome

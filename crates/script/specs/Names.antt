@@ -126,6 +126,90 @@ tick64 = 116 ∷ 105 ∷ 99 ∷ 107 ∷ 54 ∷ 52 ∷ []
 abbrev pub tsc : List ℕ
 tsc = 116 ∷ 115 ∷ 99 ∷ []
 
+-- timer_initializations
+abbrev pub timerInitializations : List ℕ
+timerInitializations = 116 ∷ 105 ∷ 109 ∷ 101 ∷ 114 ∷ 95 ∷ 105 ∷ 110 ∷ 105 ∷ 116 ∷ 105 ∷ 97 ∷ 108 ∷ 105 ∷ 122 ∷ 97 ∷ 116 ∷ 105 ∷ 111 ∷ 110 ∷ 115 ∷ []
+
+-- dpc_initializations
+abbrev pub dpcInitializations : List ℕ
+dpcInitializations = 100 ∷ 112 ∷ 99 ∷ 95 ∷ 105 ∷ 110 ∷ 105 ∷ 116 ∷ 105 ∷ 97 ∷ 108 ∷ 105 ∷ 122 ∷ 97 ∷ 116 ∷ 105 ∷ 111 ∷ 110 ∷ 115 ∷ []
+
+-- timer_read_overlap
+abbrev pub timerReadOverlap : List ℕ
+timerReadOverlap = 116 ∷ 105 ∷ 109 ∷ 101 ∷ 114 ∷ 95 ∷ 114 ∷ 101 ∷ 97 ∷ 100 ∷ 95 ∷ 111 ∷ 118 ∷ 101 ∷ 114 ∷ 108 ∷ 97 ∷ 112 ∷ []
+
+-- timer_metadata_overlap
+abbrev pub timerMetadataOverlap : List ℕ
+timerMetadataOverlap = 116 ∷ 105 ∷ 109 ∷ 101 ∷ 114 ∷ 95 ∷ 109 ∷ 101 ∷ 116 ∷ 97 ∷ 100 ∷ 97 ∷ 116 ∷ 97 ∷ 95 ∷ 111 ∷ 118 ∷ 101 ∷ 114 ∷ 108 ∷ 97 ∷ 112 ∷ []
+
+-- initialize_timer
+abbrev pub initializeTimer : List ℕ
+initializeTimer = 105 ∷ 110 ∷ 105 ∷ 116 ∷ 105 ∷ 97 ∷ 108 ∷ 105 ∷ 122 ∷ 101 ∷ 95 ∷ 116 ∷ 105 ∷ 109 ∷ 101 ∷ 114 ∷ []
+
+-- initialize_dpc
+abbrev pub initializeDpc : List ℕ
+initializeDpc = 105 ∷ 110 ∷ 105 ∷ 116 ∷ 105 ∷ 97 ∷ 108 ∷ 105 ∷ 122 ∷ 101 ∷ 95 ∷ 100 ∷ 112 ∷ 99 ∷ []
+
+-- set_timer
+abbrev pub setTimer : List ℕ
+setTimer = 115 ∷ 101 ∷ 116 ∷ 95 ∷ 116 ∷ 105 ∷ 109 ∷ 101 ∷ 114 ∷ []
+
+-- cancel_timer
+abbrev pub cancelTimer : List ℕ
+cancelTimer = 99 ∷ 97 ∷ 110 ∷ 99 ∷ 101 ∷ 108 ∷ 95 ∷ 116 ∷ 105 ∷ 109 ∷ 101 ∷ 114 ∷ []
+
+-- require_timer_release
+abbrev pub requireTimerRelease : List ℕ
+requireTimerRelease = 114 ∷ 101 ∷ 113 ∷ 117 ∷ 105 ∷ 114 ∷ 101 ∷ 95 ∷ 116 ∷ 105 ∷ 109 ∷ 101 ∷ 114 ∷ 95 ∷ 114 ∷ 101 ∷ 108 ∷ 101 ∷ 97 ∷ 115 ∷ 101 ∷ []
+
+-- retire_timer_backing
+abbrev pub retireTimerBacking : List ℕ
+retireTimerBacking = 114 ∷ 101 ∷ 116 ∷ 105 ∷ 114 ∷ 101 ∷ 95 ∷ 116 ∷ 105 ∷ 109 ∷ 101 ∷ 114 ∷ 95 ∷ 98 ∷ 97 ∷ 99 ∷ 107 ∷ 105 ∷ 110 ∷ 103 ∷ []
+
+-- configure_dpc_dispatch
+abbrev pub configureDpcDispatch : List ℕ
+configureDpcDispatch = 99 ∷ 111 ∷ 110 ∷ 102 ∷ 105 ∷ 103 ∷ 117 ∷ 114 ∷ 101 ∷ 95 ∷ 100 ∷ 112 ∷ 99 ∷ 95 ∷ 100 ∷ 105 ∷ 115 ∷ 112 ∷ 97 ∷ 116 ∷ 99 ∷ 104 ∷ []
+
+-- queued_dpcs
+abbrev pub queuedDpcs : List ℕ
+queuedDpcs = 113 ∷ 117 ∷ 101 ∷ 117 ∷ 101 ∷ 100 ∷ 95 ∷ 100 ∷ 112 ∷ 99 ∷ 115 ∷ []
+
+-- insert_queue_dpc
+abbrev pub insertQueueDpc : List ℕ
+insertQueueDpc = 105 ∷ 110 ∷ 115 ∷ 101 ∷ 114 ∷ 116 ∷ 95 ∷ 113 ∷ 117 ∷ 101 ∷ 117 ∷ 101 ∷ 95 ∷ 100 ∷ 112 ∷ 99 ∷ []
+
+-- remove_queue_dpc
+abbrev pub removeQueueDpc : List ℕ
+removeQueueDpc = 114 ∷ 101 ∷ 109 ∷ 111 ∷ 118 ∷ 101 ∷ 95 ∷ 113 ∷ 117 ∷ 101 ∷ 117 ∷ 101 ∷ 95 ∷ 100 ∷ 112 ∷ 99 ∷ []
+
+-- start_dpc
+abbrev pub startDpc : List ℕ
+startDpc = 115 ∷ 116 ∷ 97 ∷ 114 ∷ 116 ∷ 95 ∷ 100 ∷ 112 ∷ 99 ∷ []
+
+-- returned_dpc
+abbrev pub returnedDpc : List ℕ
+returnedDpc = 114 ∷ 101 ∷ 116 ∷ 117 ∷ 114 ∷ 110 ∷ 101 ∷ 100 ∷ 95 ∷ 100 ∷ 112 ∷ 99 ∷ []
+
+-- restored_dpc
+abbrev pub restoredDpc : List ℕ
+restoredDpc = 114 ∷ 101 ∷ 115 ∷ 116 ∷ 111 ∷ 114 ∷ 101 ∷ 100 ∷ 95 ∷ 100 ∷ 112 ∷ 99 ∷ []
+
+-- x64
+abbrev pub x64 : List ℕ
+x64 = 120 ∷ 54 ∷ 52 ∷ []
+
+-- x86
+abbrev pub x86 : List ℕ
+x86 = 120 ∷ 56 ∷ 54 ∷ []
+
+-- image
+abbrev pub image : List ℕ
+image = 105 ∷ 109 ∷ 97 ∷ 103 ∷ 101 ∷ []
+
+-- pool
+abbrev pub pool : List ℕ
+pool = 112 ∷ 111 ∷ 111 ∷ 108 ∷ []
+
 -- any
 abbrev pub any : List ℕ
 any = 97 ∷ 110 ∷ 121 ∷ []

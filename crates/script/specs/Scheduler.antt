@@ -11,6 +11,7 @@ use Rattle.script.specs.Words.{first, others, same}
 use Rattle.script.specs.Numbers.{numberOf}
 use Rattle.script.specs.Arguments.{most, flagOf, oneOf, twoOf, threeOf, withOne, withTwo, withThree, bareLine}
 use Rattle.script.specs.Clock.{clockLine}
+use Rattle.script.specs.Timers.{timerLine}
 
 -- ---- the words behind the name of a line
 
@@ -43,7 +44,7 @@ threadLine ws =
     (cond (same (first ws) name.terminate) (withOne command.Terminate (oneOf 4294967295 (others ws)))
     (cond (same (first ws) name.delayUntil) (withTwo command.DelayUntil (twoOf most 255 (others ws)))
     (cond (same (first ws) name.advanceTo) (withOne command.AdvanceTo (oneOf most (others ws)))
-    (cond (same (first ws) name.clock) (clockLine (others ws)) command.Unread)))))
+    (cond (same (first ws) name.clock) (clockLine (others ws)) (timerLine ws))))))
 
 unfoldable pub eventsLine : List (List ℕ) → Command
 eventsLine ws =

@@ -8,6 +8,8 @@ ghost use Rattle.script.specs.Line.{textLength, textLine, readLine};
 use super::lex;
 use super::scheduler;
 use super::wait;
+use arch::Architecture;
+use images::TimerBacking;
 
 pub enum Command {
     // The line cannot be read.
@@ -61,6 +63,66 @@ pub enum Command {
     ReleaseMutex(u64),
     ResetEvent(u64),
     Terminate(u32),
+    TimerInitializations,
+    DpcInitializations,
+    TimerReadOverlap {
+        address: u64,
+        size: u64,
+    },
+    TimerMetadataOverlap {
+        address: u64,
+        size: u64,
+    },
+    InitializeTimer {
+        address: u64,
+        architecture: Architecture,
+        backing: TimerBacking,
+        manual: bool,
+    },
+    InitializeDpc {
+        address: u64,
+        architecture: Architecture,
+        backing: TimerBacking,
+        routine: u64,
+        context: u64,
+    },
+    SetTimer {
+        address: u64,
+        due: u64,
+        absolute: bool,
+        period: i32,
+        dpc: u64,
+    },
+    CancelTimer(u64),
+    RequireTimerRelease {
+        address: u64,
+        size: u64,
+    },
+    RetireTimerBacking {
+        address: u64,
+        size: u64,
+    },
+    ConfigureDpcDispatch {
+        first: u64,
+        second: u64,
+    },
+    // The position in the queue.
+    QueuedDpcs(u64),
+    InsertQueueDpc {
+        address: u64,
+        first: u64,
+        second: u64,
+    },
+    RemoveQueueDpc(u64),
+    StartDpc(u64),
+    ReturnedDpc {
+        address: u64,
+        sequence: u64,
+    },
+    RestoredDpc {
+        address: u64,
+        sequence: u64,
+    },
     ClockNew {
         utc: u64,
         uptime: u64,

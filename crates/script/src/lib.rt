@@ -1,8 +1,11 @@
 // The text of a script: a line read as a command, and an answer written as a line.
 mod arguments;
-mod clock;
+mod clock_lines;
 pub mod command;
+mod dpc_lines;
 pub mod lex;
+mod location;
 pub mod print;
 mod scheduler;
+mod timer_lines;
 mod wait;

@@ -8,10 +8,11 @@ use super::arguments;
 use super::arguments::Flag;
 use super::arguments::Three;
 use super::arguments::Two;
-use super::clock;
+use super::clock_lines;
 use super::command::Command;
 use super::lex;
 use super::lex::Number;
+use super::timer_lines;
 
 fn read_open(line: &[u8], at: usize) -> Command
     ensures { λ r. ⌜ r ≡ withOne command.Open (oneOf 255 (wordsAt (now (line .entry)) at)) ⌝ }
@@ -227,9 +228,9 @@ fn read_threads(line: &[u8], at: usize) -> Command
         return read_advance_to(line, rest);
     }
     if lex::is_word(line, at, b"clock") {
-        return clock::read_clock(line, rest);
+        return clock_lines::read_clock(line, rest);
     }
-    Command::Unread
+    timer_lines::read_timers(line, at)
 }
 
 fn read_events(line: &[u8], at: usize) -> Command

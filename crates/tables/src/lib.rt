@@ -1,6 +1,7 @@
 // Tables of records of 32 words whose first words, the keys, rise: search by halves, and room made and closed for a record.
 ghost use mathlib.Core.Path.{_≡_};
 ghost use Prim.Native.Nat.{_+_, _≤_, _<_};
+ghost use Rattle.tables.specs.Compact.{isMarked, copied, moved, kept, keptTo, compacted, compactedTo};
 ghost use Rattle.tables.specs.Table.{keyAt, narrowed, position, raised, lowered, gapOpened, gapClosed};
 use words::layout;
 
@@ -114,4 +115,64 @@ pub fn close_gap(w: &mut [u64], base: usize, n: u64, i: u64)
         return;
     }
     lower(w, layout::entry_at(base, i), 32 * ((n - i - 1) as usize));
+}
+
+// Whether word `word` of the record at place `at` is the mark.
+fn is_marked(w: &[u64], at: usize, word: usize, mark: u64) -> bool
+    ensures { λ r. ⌜ r ≡ isMarked (now (w .entry)) at word mark ⌝ }
+{
+    words::get_in(w, at, word) == mark
+}
+
+// The record at place `from` copied to place `to`, the first word first.
+fn copy(w: &mut [u64], from: usize, to: usize)
+    ensures { λ r. ⌜ now (w .exit) ≡ copied (now (w .entry)) from to ⌝ }
+{
+    let mut k: usize = 0;
+    let mut left: usize = 32;
+    while 0 < left {
+        let word = words::get_in(w, from, k);
+        words::put_in(w, to, k, word);
+        k += 1;
+        left -= 1;
+    }
+}
+
+fn move_down(w: &mut [u64], base: usize, i: u64, j: u64)
+    ensures { λ r. ⌜ now (w .exit) ≡ moved (now (w .entry)) base i j ⌝ }
+{
+    if i == j {
+        return;
+    }
+    copy(w, layout::entry_at(base, i), layout::entry_at(base, j));
+}
+
+// Record `i`, unless it has the mark, becomes record `j`. Answers the place of the next that stays.
+fn keep(w: &mut [u64], base: usize, i: u64, j: u64, word: usize, mark: u64) -> u64
+    requires { ⌜ j ≤ 8191 ⌝ }
+    ensures { λ r. ⌜ (r ≡ keptTo (now (w .entry)) base i j word mark) × (now (w .exit) ≡ kept (now (w .entry)) base i j word mark) ⌝ }
+{
+    if is_marked(w, layout::entry_at(base, i), word, mark) {
+        return j;
+    }
+    move_down(w, base, i, j);
+    j + 1
+}
+
+// Of the `n` records, those whose word `word` is the mark taken out; the others keep their order. Answers how many stay.
+pub fn compact(w: &mut [u64], base: usize, n: u64, word: usize, mark: u64) -> u64
+    ensures { λ r. ⌜ (r ≡ compactedTo (now (w .entry)) base n word mark) × (now (w .exit) ≡ compacted (now (w .entry)) base n word mark) ⌝ }
+{
+    if MOST < n {
+        return n;
+    }
+    let mut i: u64 = 0;
+    let mut j: u64 = 0;
+    let mut left = n;
+    while 0 < left {
+        j = keep(w, base, i, j, word, mark);
+        i += 1;
+        left -= 1;
+    }
+    j
 }

@@ -35,6 +35,48 @@ now = 8
 abbrev pub ready : ℕ
 ready = 9
 
+abbrev pub policy : ℕ
+policy = 10
+
+abbrev pub timerArgument : ℕ
+timerArgument = 11
+
+abbrev pub timerArgument2 : ℕ
+timerArgument2 = 12
+
+abbrev pub accepted : ℕ
+accepted = 13
+
+abbrev pub duplicates : ℕ
+duplicates = 14
+
+abbrev pub removed : ℕ
+removed = 15
+
+abbrev pub started : ℕ
+started = 16
+
+abbrev pub returned : ℕ
+returned = 17
+
+abbrev pub restored : ℕ
+restored = 18
+
+abbrev pub timerInitializations : ℕ
+timerInitializations = 19
+
+abbrev pub dpcInitializations : ℕ
+dpcInitializations = 20
+
+abbrev pub queueFirst : ℕ
+queueFirst = 23
+
+abbrev pub queueLast : ℕ
+queueLast = 24
+
+abbrev pub active : ℕ
+active = 25
+
 -- ---- places of records
 
 unfoldable pub threadAt : ℕ → ℕ

@@ -23,10 +23,39 @@ pub const SEQUENCE: usize = 7;
 pub const NOW: usize = 8;
 
 pub const READY: usize = 9;
-// The first and the last thread of each chain: of the waiters, and of the ready threads of priority p at READY_FIRST + p.
+// The DPC policy (0: none, 1: dispatch) and the two arguments of a timer's work under it.
+pub const POLICY: usize = 10;
+
+pub const TIMER_ARGUMENT: usize = 11;
+
+pub const TIMER_ARGUMENT_2: usize = 12;
+// The counts of DPC work, and how many times a timer and a DPC have been initialized.
+pub const ACCEPTED: usize = 13;
+
+pub const DUPLICATES: usize = 14;
+
+pub const REMOVED: usize = 15;
+
+pub const STARTED: usize = 16;
+
+pub const RETURNED: usize = 17;
+
+pub const RESTORED: usize = 18;
+
+pub const TIMER_INITIALIZATIONS: usize = 19;
+
+pub const DPC_INITIALIZATIONS: usize = 20;
+// The first and the last waiter; those of the ready threads of priority p stand at READY_FIRST + p and READY_LAST + p.
 pub const WAITERS_FIRST: usize = 21;
 
 pub const WAITERS_LAST: usize = 22;
+
+// The first and the last DPC of the queue, and the address of the DPC whose work is active (0: none).
+pub const QUEUE_FIRST: usize = 23;
+
+pub const QUEUE_LAST: usize = 24;
+
+pub const ACTIVE: usize = 25;
 
 pub const READY_FIRST: usize = 32;
 
@@ -67,6 +96,78 @@ pub const MANUAL: usize = 2;
 pub const SIGNALED: usize = 3;
 
 pub const OWNER: usize = 4;
+
+// Words of a timer's record, behind those of every object. The architecture is 0 for x64 and 1 for x86; the backing is 0 for an
+// image and 1 for nonpaged pool, with its base, its size (of pool, the requested bytes) and, of pool, the mapped bytes.
+pub const INSERTED: usize = 5;
+
+pub const DUE: usize = 6;
+
+pub const PERIOD: usize = 7;
+
+pub const TIMER_DPC: usize = 8;
+
+pub const ABSOLUTE: usize = 9;
+
+pub const ARM: usize = 10;
+
+pub const INITIALIZATION: usize = 11;
+
+pub const TIMER_ARCHITECTURE: usize = 12;
+
+pub const TIMER_BACKING: usize = 13;
+
+pub const TIMER_BASE: usize = 14;
+
+pub const TIMER_SIZE: usize = 15;
+
+pub const TIMER_MAPPED: usize = 16;
+
+// Words of a DPC's record, behind its address. The phase is 0 idle, 1 queued, 2 running, 3 returning; NAMED_BY is the key of the
+// inserted timer that has the DPC, or 0.
+pub const PHASE: usize = 1;
+
+pub const NEXT_QUEUED: usize = 2;
+
+pub const NAMED_BY: usize = 3;
+
+pub const DPC_ARCHITECTURE: usize = 4;
+
+pub const DPC_BACKING: usize = 5;
+
+pub const DPC_BASE: usize = 6;
+
+pub const DPC_SIZE: usize = 7;
+
+pub const DPC_MAPPED: usize = 8;
+
+pub const ROUTINE: usize = 9;
+
+pub const CONTEXT: usize = 10;
+
+// A DPC's work, which says something unless the phase is idle. The origin is 0 for a caller and 1 for a timer, whose own words follow.
+pub const WORK_SEQUENCE: usize = 11;
+
+pub const WORK_ARGUMENT: usize = 12;
+
+pub const WORK_ARGUMENT_2: usize = 13;
+
+pub const ORIGIN: usize = 14;
+
+pub const ORIGIN_TIMER: usize = 15;
+
+pub const ORIGIN_ARM: usize = 16;
+
+pub const ORIGIN_INITIALIZATION: usize = 17;
+
+pub const ORIGIN_DEADLINE: usize = 18;
+
+pub const ORIGIN_OBSERVED: usize = 19;
+
+pub const ORIGIN_PERIODIC: usize = 20;
+
+// What a DPC's number becomes when the table is closed up.
+pub const NEW_NUMBER: usize = 21;
 
 // Where thread `id` stands; a number past 256 is no thread's, and gets unused words of the header.
 pub fn thread_at(id: u64) -> usize

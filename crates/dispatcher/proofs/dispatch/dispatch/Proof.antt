@@ -1,7 +1,8 @@
 use denote.Ref.{now}
 use mathlib.Core.Path.{ap}
 use Rattle.answers.specs.Outcome.{Outcome}
-use Rattle.dispatcher.specs.Dispatch.{told, dispatched}
+use Rattle.dispatcher.specs.Dispatch.{told}
+use Rattle.dispatcher.specs.Dispatched.{dispatched}
 use borrow.Author.Tests.{eq-eqb, ne-eqb, lt-ltb, le-ltb}
 use borrow.Author.Needs.{needs}
 use Rattle.dispatcher.proofs.dispatch.dispatch.Statement.{statement}
@@ -43,15 +44,15 @@ returns-3 : tie.Need-returns-3
 unfolding dispatched
 returns-3 c = simp (← (c .before .before .before .before .before .before .before .before .before .before .before .before .get .ensures), le-ltb _ _ (c .before .before .before .before .before .before .before .before .before .before .before .if1 .left), ← (c .before .before .before .before .before .before .before .before .before .get2 .ensures), eq-eqb _ _ (c .before .before .before .before .before .before .before .before .if2 .left), ← (c .before .before .before .before .before .before .get3 .ensures), ← (c .before .before .before .before .before .top-bit .ensures), ne-eqb _ _ (c .before .before .before .before .if3 .taken)) (ap (λ (o : Outcome). told (o .answer) (o .words) (now (c .before .before .before .before .before .before .before .before .before .before .before .before .before .before .before .before .args .out))) (c .before .before .run-first .ensures))
 
-soonest-requires : tie.Need-soonest-requires
-soonest-requires c κs = search needs
+next-time-requires : tie.Need-next-time-requires
+next-time-requires c κs = search needs
 
 same-length-4 : tie.Need-same-length-4
 same-length-4 c = search needs
 
 returns-4 : tie.Need-returns-4
 unfolding dispatched
-returns-4 c = simp (← (c .before .before .before .before .before .before .before .before .before .before .before .get .ensures), le-ltb _ _ (c .before .before .before .before .before .before .before .before .before .before .if1 .left), ← (c .before .before .before .before .before .before .before .before .get2 .ensures), eq-eqb _ _ (c .before .before .before .before .before .before .before .if2 .left), ← (c .before .before .before .before .before .get3 .ensures), ← (c .before .before .before .before .top-bit .ensures), eq-eqb _ _ (c .before .before .before .if3 .left), ← (c .before .soonest .ensures), c .if4 .taken)
+returns-4 c = simp (← (c .before .before .before .before .before .before .before .before .before .before .before .get .ensures), le-ltb _ _ (c .before .before .before .before .before .before .before .before .before .before .if1 .left), ← (c .before .before .before .before .before .before .before .before .get2 .ensures), eq-eqb _ _ (c .before .before .before .before .before .before .before .if2 .left), ← (c .before .before .before .before .before .get3 .ensures), ← (c .before .before .before .before .top-bit .ensures), eq-eqb _ _ (c .before .before .before .if3 .left), ← (c .before .next-time .ensures), c .if4 .taken)
 
 list-waiting-requires : tie.Need-list-waiting-requires
 list-waiting-requires c κs = search needs
@@ -64,7 +65,7 @@ same-length-6 c = search needs
 
 returns-5 : tie.Need-returns-5
 unfolding dispatched
-returns-5 c = simp (← (c .before .before .before .before .before .before .before .before .before .before .before .before .before .before .before .before .before .get .ensures), le-ltb _ _ (c .before .before .before .before .before .before .before .before .before .before .before .before .before .before .before .before .if1 .left), ← (c .before .before .before .before .before .before .before .before .before .before .before .before .before .before .get2 .ensures), eq-eqb _ _ (c .before .before .before .before .before .before .before .before .before .before .before .before .before .if2 .left), ← (c .before .before .before .before .before .before .before .before .before .before .before .get3 .ensures), ← (c .before .before .before .before .before .before .before .before .before .before .top-bit .ensures), eq-eqb _ _ (c .before .before .before .before .before .before .before .before .before .if3 .left), ← (c .before .before .before .before .before .before .before .soonest .ensures), c .before .before .before .before .before .before .if4 .left, ← (c .before .before .before .list-waiting .ensures .0), eq-eqb _ _ (c .if5 .taken)) (cc)
+returns-5 c = simp (← (c .before .before .before .before .before .before .before .before .before .before .before .before .before .before .before .before .before .get .ensures), le-ltb _ _ (c .before .before .before .before .before .before .before .before .before .before .before .before .before .before .before .before .if1 .left), ← (c .before .before .before .before .before .before .before .before .before .before .before .before .before .before .get2 .ensures), eq-eqb _ _ (c .before .before .before .before .before .before .before .before .before .before .before .before .before .if2 .left), ← (c .before .before .before .before .before .before .before .before .before .before .before .get3 .ensures), ← (c .before .before .before .before .before .before .before .before .before .before .top-bit .ensures), eq-eqb _ _ (c .before .before .before .before .before .before .before .before .before .if3 .left), ← (c .before .before .before .before .before .before .before .next-time .ensures), c .before .before .before .before .before .before .if4 .left, ← (c .before .before .before .list-waiting .ensures .0), eq-eqb _ _ (c .if5 .taken)) (cc)
 
 same-length-7 : tie.Need-same-length-7
 same-length-7 c = search needs
@@ -74,7 +75,7 @@ same-length-8 c = search needs
 
 returns-6 : tie.Need-returns-6
 unfolding dispatched
-returns-6 c = simp (← (c .before .before .before .before .before .before .before .before .before .before .before .before .before .before .before .before .before .get .ensures), le-ltb _ _ (c .before .before .before .before .before .before .before .before .before .before .before .before .before .before .before .before .if1 .left), ← (c .before .before .before .before .before .before .before .before .before .before .before .before .before .before .get2 .ensures), eq-eqb _ _ (c .before .before .before .before .before .before .before .before .before .before .before .before .before .if2 .left), ← (c .before .before .before .before .before .before .before .before .before .before .before .get3 .ensures), ← (c .before .before .before .before .before .before .before .before .before .before .top-bit .ensures), eq-eqb _ _ (c .before .before .before .before .before .before .before .before .before .if3 .left), ← (c .before .before .before .before .before .before .before .soonest .ensures), c .before .before .before .before .before .before .if4 .left, ← (c .before .before .before .list-waiting .ensures .0), ne-eqb _ _ (c .if5 .left)) (cc)
+returns-6 c = simp (← (c .before .before .before .before .before .before .before .before .before .before .before .before .before .before .before .before .before .get .ensures), le-ltb _ _ (c .before .before .before .before .before .before .before .before .before .before .before .before .before .before .before .before .if1 .left), ← (c .before .before .before .before .before .before .before .before .before .before .before .before .before .before .get2 .ensures), eq-eqb _ _ (c .before .before .before .before .before .before .before .before .before .before .before .before .before .if2 .left), ← (c .before .before .before .before .before .before .before .before .before .before .before .get3 .ensures), ← (c .before .before .before .before .before .before .before .before .before .before .top-bit .ensures), eq-eqb _ _ (c .before .before .before .before .before .before .before .before .before .if3 .left), ← (c .before .before .before .before .before .before .before .next-time .ensures), c .before .before .before .before .before .before .if4 .left, ← (c .before .before .before .list-waiting .ensures .0), ne-eqb _ _ (c .if5 .left)) (cc)
 
 pub dispatch-spec : {M : Type 1} → statement M
 dispatch-spec =
@@ -91,7 +92,7 @@ dispatch-spec =
     run-first-requires
     same-length-3
     returns-3
-    soonest-requires
+    next-time-requires
     same-length-4
     returns-4
     list-waiting-requires

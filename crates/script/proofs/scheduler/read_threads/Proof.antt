@@ -85,9 +85,12 @@ returns-6 : tie.Need-returns-6
 unfolding threadLine
 returns-6 c = simp (sym (c .before .before .before .before .before .before .before .before .before .before .before .before .before .before .before .before .before .is-word .ensures) ∙ c .before .before .before .before .before .before .before .before .before .before .before .before .before .before .before .before .if1 .left, sym (c .before .before .before .before .before .before .before .before .before .before .before .before .before .before .is-word2 .ensures) ∙ c .before .before .before .before .before .before .before .before .before .before .before .before .before .if2 .left, sym (c .before .before .before .before .before .before .before .before .before .before .before .is-word3 .ensures) ∙ c .before .before .before .before .before .before .before .before .before .before .if3 .left, sym (c .before .before .before .before .before .before .before .before .is-word4 .ensures) ∙ c .before .before .before .before .before .before .before .if4 .left, sym (c .before .before .before .before .before .is-word5 .ensures) ∙ c .before .before .before .before .if5 .left, sym (c .before .before .is-word6 .ensures) ∙ c .before .if6 .taken, ← (c .before .before .before .before .before .before .before .before .before .before .before .before .before .before .before .before .before .before .before .behind .ensures)) (c .read-clock .ensures)
 
+read-timers-requires : tie.Need-read-timers-requires
+read-timers-requires c κs = search needs
+
 returns-7 : tie.Need-returns-7
 unfolding threadLine
-returns-7 c = simp (sym (c .before .before .before .before .before .before .before .before .before .before .before .before .before .before .before .before .is-word .ensures) ∙ c .before .before .before .before .before .before .before .before .before .before .before .before .before .before .before .if1 .left, sym (c .before .before .before .before .before .before .before .before .before .before .before .before .before .is-word2 .ensures) ∙ c .before .before .before .before .before .before .before .before .before .before .before .before .if2 .left, sym (c .before .before .before .before .before .before .before .before .before .before .is-word3 .ensures) ∙ c .before .before .before .before .before .before .before .before .before .if3 .left, sym (c .before .before .before .before .before .before .before .is-word4 .ensures) ∙ c .before .before .before .before .before .before .if4 .left, sym (c .before .before .before .before .is-word5 .ensures) ∙ c .before .before .before .if5 .left, sym (c .before .is-word6 .ensures) ∙ c .if6 .left)
+returns-7 c = simp (sym (c .before .before .before .before .before .before .before .before .before .before .before .before .before .before .before .before .before .is-word .ensures) ∙ c .before .before .before .before .before .before .before .before .before .before .before .before .before .before .before .before .if1 .left, sym (c .before .before .before .before .before .before .before .before .before .before .before .before .before .before .is-word2 .ensures) ∙ c .before .before .before .before .before .before .before .before .before .before .before .before .before .if2 .left, sym (c .before .before .before .before .before .before .before .before .before .before .before .is-word3 .ensures) ∙ c .before .before .before .before .before .before .before .before .before .before .if3 .left, sym (c .before .before .before .before .before .before .before .before .is-word4 .ensures) ∙ c .before .before .before .before .before .before .before .if4 .left, sym (c .before .before .before .before .before .is-word5 .ensures) ∙ c .before .before .before .before .if5 .left, sym (c .before .before .is-word6 .ensures) ∙ c .before .if6 .left) (c .read-timers .ensures)
 
 pub read-threads-spec : {M : Type 1} → statement M
 read-threads-spec =
@@ -118,4 +121,5 @@ read-threads-spec =
     is-word-requires-6
     read-clock-requires
     returns-6
+    read-timers-requires
     returns-7)

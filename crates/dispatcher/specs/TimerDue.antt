@@ -1,0 +1,38 @@
+-- The timers that a dispatch counts when it says what to advance to. Word 0 of an object's record is its key, 1 its kind (2 a
+-- timer), 3 signaled, 5 inserted, 6 the due, 8 the DPC.
+use mathlib.Core.Bool.{Bool, cond, true, false}
+use Prim.Native.Nat.{ℕ, zero, suc, _+_}
+use mathlib.Core.List.{List}
+use lib.ListN.{getD}
+use lib.Dec.{eqb}
+use Rattle.words.specs.Layout.{entryAt}
+use Rattle.objects.specs.Objects.{objectsBase, objectCount}
+use Rattle.chains.specs.Chain.{firstOf}
+use Rattle.chains.specs.Ready.{waitersChain}
+use Rattle.waits.specs.Wake.{waitsOn}
+use Rattle.dispatcher.specs.declared.dispatch.Due.{Due}
+use Rattle.dispatcher.specs.Dispatch.{sooner, soonest}
+
+-- unsignaled and in a waiter's list
+unfoldable pub isAwaited : List ℕ → ℕ → Bool
+isAwaited w place = cond (eqb (getD w (place + 3) 0) 0) (waitsOn w 2 (getD w (place + 0) 0)) false
+
+-- document 01: it is inserted, and it either has a DPC or is unsignaled and in a waiter's list
+unfoldable pub timerCounts : List ℕ → ℕ → Bool
+timerCounts w place =
+    cond (eqb (getD w (place + 1) 0) 2) (cond (eqb (getD w (place + 5) 0) 0) false (cond (eqb (getD w (place + 8) 0) 0) (isAwaited w place) true)) false
+
+unfoldable pub dueWith : List ℕ → Due → ℕ → Due
+dueWith w d place = cond (timerCounts w place) (sooner d 1 (getD w (place + 6) 0)) d
+
+-- of the `m` objects from place `i` on
+unfoldable pub soonestTimerIn : ℕ → List ℕ → Due → ℕ → ℕ → Due
+soonestTimerIn zero w d base i = d
+soonestTimerIn (suc m) w d base i = soonestTimerIn m w (dueWith w d (entryAt base i)) base (i + 1)
+
+unfoldable pub soonestTimer : List ℕ → Due → Due
+soonestTimer w d = soonestTimerIn (objectCount w) w d (objectsBase w) 0
+
+-- document 01: the smallest waiting deadline or counted timer due; a timer counts if some thread waits
+unfoldable pub nextTime : List ℕ → Due
+nextTime w = cond (eqb (firstOf w waitersChain) 0) (soonest w) (soonestTimer w (soonest w))

@@ -1,0 +1,3 @@
+pub mod Queue
+pub mod Calls
+pub mod Reads

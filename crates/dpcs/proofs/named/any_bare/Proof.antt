@@ -1,0 +1,72 @@
+use denote.Ref.{now}
+use native.Mathlib.Omega.{arith}
+use Prim.Native.Nat.{_+_, _≤_}
+use mathlib.Core.Bool.{true, false}
+use mathlib.Core.Path.{_≡_, _∙_, sym}
+use Rattle.words.specs.Layout.{entryAt}
+use Rattle.objects.proofs.CountLaws.{count-most}
+use Rattle.dpcs.specs.Named.{isBare, bareIn, anyBare}
+use Rattle.dpcs.proofs.NamedLaws.{bare-none, bare-stop, bare-more}
+use borrow.Author.Needs.{needs}
+use Rattle.dpcs.proofs.named.any_bare.Statement.{statement}
+use Rattle.dpcs.proofs.named.any_bare.Tie as tie
+
+abbrev Inv-loop : tie.InvT-loop
+Inv-loop w base i₀ left₀ i left = (i + left ≤ 4096) × (bareIn left w base i ≡ anyBare w)
+
+abbrev μ-loop : tie.MeasureT-loop
+μ-loop w base i₀ left₀ i left = left
+
+objects-base-requires : tie.Need-objects-base-requires Inv-loop μ-loop
+objects-base-requires c κs = search needs
+
+count-requires : tie.Need-count-requires Inv-loop μ-loop
+count-requires c κs = search needs
+
+loop-holds : tie.Need-loop-holds Inv-loop μ-loop
+unfolding anyBare
+loop-holds c = (omega (arith, count-most (now (c .before .before .before .args .w)), c .count .ensures), cc)
+
+entry-at-requires : tie.Need-entry-at-requires Inv-loop μ-loop
+entry-at-requires c κs = search needs
+
+is-bare-requires : tie.Need-is-bare-requires Inv-loop μ-loop
+is-bare-requires c κs = search needs
+
+returns : tie.Need-returns Inv-loop μ-loop
+returns c = let e : isBare (now (c .before .before .before .before .before .before .before .before .args .w)) (entryAt (c .before .before .before .before .before .before .objects-base .result) (c .before .before .before .before .loop .i)) ≡ true = cc in
+    sym (bare-stop (c .before .before .before .before .loop .left) (now (c .before .before .before .before .before .before .before .before .args .w)) (c .before .before .before .before .before .before .objects-base .result) (c .before .before .before .before .loop .i) (c .before .before .before .loop-test .taken) e) ∙ c .before .before .before .before .loop .inv .1
+
+add-i : tie.Need-add-i Inv-loop μ-loop
+add-i c = search needs
+
+sub-left : tie.Need-sub-left Inv-loop μ-loop
+sub-left c = search needs
+
+loop-less : tie.Need-loop-less Inv-loop μ-loop
+loop-less c = search needs
+
+loop-again : tie.Need-loop-again Inv-loop μ-loop
+loop-again c = let e : isBare (now (c .before .before .before .before .before .before .before .before .args .w)) (entryAt (c .before .before .before .before .before .before .objects-base .result) (c .before .before .before .before .loop .i)) ≡ false = cc in
+    (search needs, cc (bare-more (c .before .before .before .before .loop .left) (now (c .before .before .before .before .before .before .before .before .args .w)) (c .before .before .before .before .before .before .objects-base .result) (c .before .before .before .before .loop .i) (c .before .before .before .loop-test .taken) e))
+
+returns-2 : tie.Need-returns-2 Inv-loop μ-loop
+returns-2 c = sym (bare-none _ _ _ _ (c .loop-test .left)) ∙ c .before .loop .inv .1
+
+pub any-bare-spec : {M : Type 1} → statement M
+any-bare-spec =
+    tie.close
+    (tie.spec
+    Inv-loop
+    μ-loop
+    objects-base-requires
+    count-requires
+    loop-holds
+    entry-at-requires
+    is-bare-requires
+    returns
+    add-i
+    sub-left
+    loop-less
+    loop-again
+    returns-2)

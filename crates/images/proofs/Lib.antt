@@ -1,0 +1,3 @@
+pub mod PlaceLaws
+pub mod FieldLaws
+pub mod ImageLaws
