@@ -1,0 +1,23 @@
+use mathlib.Core.Path.{_∙_, sym}
+use Rattle.timers.specs.Release.{timerHeld}
+use borrow.Author.Needs.{needs}
+use Rattle.timers.proofs.release.timer_held.Statement.{statement}
+use Rattle.timers.proofs.release.timer_held.Tie as tie
+
+timer-stands-requires : tie.Need-timer-stands-requires
+timer-stands-requires c κs = search needs
+
+is-timer-held-requires : tie.Need-is-timer-held-requires
+is-timer-held-requires c κs = search needs
+
+returns : tie.Need-returns
+unfolding timerHeld
+returns c = simp (sym (c .before .before .timer-stands .ensures) ∙ c .before .if1 .taken) (cc)
+
+returns-2 : tie.Need-returns-2
+unfolding timerHeld
+returns-2 c = simp (sym (c .before .timer-stands .ensures) ∙ c .if1 .left)
+
+pub timer-held-spec : {M : Type 1} → statement M
+timer-held-spec =
+    tie.close (tie.spec timer-stands-requires is-timer-held-requires returns returns-2)
