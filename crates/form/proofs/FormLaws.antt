@@ -17,7 +17,8 @@ use Rattle.threads.specs.Thread.{threadCount}
 use Rattle.threads.proofs.ThreadLaws.{count-small}
 use Rattle.form.specs.Thread.{hasState, threadPasses, threadsIn, oneIf, stateCountIn, stateCount}
 use Rattle.form.specs.Object.{objectPasses, objectsIn}
-use Rattle.form.specs.Chain.{sequenceAt, sequencesIn, memberPasses, chainEnd, chainIn, chainSize, bitPasses, queueSize, queuesIn}
+use Rattle.form_dpc.specs.Queue.{chainEnd}
+use Rattle.form.specs.Chain.{sequenceAt, sequencesIn, memberPasses, chainIn, chainSize, bitPasses, queueSize, queuesIn}
 
 less-one : (k : ℕ) → suc k - 1 ≡ k
 less-one k = omega arith

@@ -11,6 +11,7 @@ use Rattle.chains.specs.declared.Chain.{Chain}
 use Rattle.chains.specs.Chain.{firstOf, nextOf}
 use Rattle.chains.specs.Ready.{readyChain, waitersChain}
 use Rattle.threads.specs.Thread.{known}
+use Rattle.form_dpc.specs.Queue.{chainEnd}
 use Rattle.form.specs.Thread.{hasState, stateCount}
 
 -- ---- the waiters' sequences
@@ -39,10 +40,6 @@ hasPriority w id p = cond (eqb p 0) true (eqb (getD w (threadAt id + 0) 0) p)
 -- a thread that may stand in a chain of threads of this state and priority
 unfoldable pub memberPasses : List ℕ → ℕ → ℕ → ℕ → Bool
 memberPasses w id state p = cond (known w id) (cond (hasState w id state) (hasPriority w id p) false) false
-
--- the chain ends behind `before`, with `n` counted; 0 where its last is another
-unfoldable pub chainEnd : List ℕ → Chain → ℕ → ℕ → ℕ
-chainEnd w c before n = cond (eqb (getD w (c .last) 0) before) n 0
 
 -- at most `k` threads from `at` on, with `before` before it and `n` counted; 0 where the chain is out of form
 unfoldable pub chainIn : ℕ → List ℕ → Chain → ℕ → ℕ → ℕ → ℕ → ℕ → ℕ

@@ -1,12 +1,15 @@
--- The objects in form. Word 0 of a record is its key, 1 its kind (0 a mutex, 1 an event), 2 manual, 3 signaled, 4 the owner.
+-- The objects in form. Word 0 of a record is its key, 1 its kind (0 a mutex, 1 an event, 2 a timer), 2 manual, 3 signaled, 4 the
+-- owner.
 use mathlib.Core.Bool.{Bool, cond, true, false}
-use Prim.Native.Nat.{ℕ, zero, suc, _+_, _-_}
+use Prim.Native.Nat.{ℕ, zero, suc, _+_}
 use mathlib.Core.List.{List}
 use lib.ListN.{getD}
 use lib.Dec.{eqb, leb, ltb}
 use Rattle.words.specs.Layout.{entryAt}
 use Rattle.tables.specs.Table.{keyAt}
 use Rattle.objects.specs.Objects.{objectsBase, objectCount}
+use Rattle.form_dpc.specs.Place.{keyRises}
+use Rattle.form_dpc.specs.Timer.{timerNumbers, dpcServes}
 use Rattle.form.specs.Thread.{live}
 
 -- an event's two flags
@@ -17,11 +20,9 @@ eventPasses w place = cond (ltb 1 (getD w (place + 2) 0)) false (leb (getD w (pl
 unfoldable pub objectNumbers : List ℕ → ℕ → ℕ → Bool
 objectNumbers w base i =
     let kind = getD w (entryAt base i + 1) 0 in
-    cond (eqb (keyAt w base i) 0) false (cond (eqb kind 0) true (cond (eqb kind 1) (eventPasses w (entryAt base i)) false))
-
--- document 01: no key stands twice, for keys rise along the table
-unfoldable pub keyRises : List ℕ → ℕ → ℕ → Bool
-keyRises w base i = cond (eqb i 0) true (ltb (keyAt w base (i - 1)) (keyAt w base i))
+    cond (eqb (keyAt w base i) 0) false
+    (cond (eqb kind 0) true
+    (cond (eqb kind 1) (eventPasses w (entryAt base i)) (cond (eqb kind 2) (timerNumbers w (entryAt base i)) false)))
 
 -- document 01: owners are live
 unfoldable pub ownerLives : List ℕ → ℕ → ℕ → Bool
@@ -30,7 +31,9 @@ ownerLives w base i =
     cond (eqb (getD w (entryAt base i + 1) 0) 0) (cond (eqb owner 0) true (live w owner)) true
 
 unfoldable pub objectPasses : List ℕ → ℕ → ℕ → Bool
-objectPasses w base i = cond (objectNumbers w base i) (cond (keyRises w base i) (ownerLives w base i) false) false
+objectPasses w base i =
+    cond (objectNumbers w base i)
+    (cond (keyRises w base i) (cond (ownerLives w base i) (dpcServes w (entryAt base i)) false) false) false
 
 -- the `m` objects from place `i` on pass
 unfoldable pub objectsIn : ℕ → List ℕ → ℕ → ℕ → Bool

@@ -2,10 +2,11 @@
 // cannot hold a thread twice, so that as many members as there are threads of that state are these threads.
 ghost use mathlib.Core.Path.{_≡_};
 ghost use Prim.Native.Nat.{_≤_};
-ghost use Rattle.form.specs.Chain.{sequenceAt, sequencesRise, hasPriority, memberPasses, chainEnd, chainSize, waitersStandOnce, flag, bitPasses, queueSize, readySize, readyStandOnce};
+ghost use Rattle.form.specs.Chain.{sequenceAt, sequencesRise, hasPriority, memberPasses, chainSize, waitersStandOnce, flag, bitPasses, queueSize, readySize, readyStandOnce};
 use super::thread;
 use chains::Chain;
 use chains::ready;
+use form_dpc::queue;
 use words::layout;
 
 // The sequence of a waiter's wait; at the chain's end, the next to be given.
@@ -61,16 +62,6 @@ fn member_passes(w: &[u64], id: u64, state: u64, p: u64) -> bool
     has_priority(w, id, p)
 }
 
-// What the end of a chain behind thread `before` gives: 0 where the chain's last is another.
-fn chain_end(w: &[u64], c: Chain, before: u64, n: u64) -> u64
-    ensures { λ r. ⌜ r ≡ chainEnd (now (w .entry)) c before n ⌝ }
-{
-    if words::get(w, c.last as usize) == before {
-        return n;
-    }
-    0
-}
-
 // 0 where a chain is out of form, else one more than how many stand in it.
 fn chain_size(w: &[u64], c: Chain, state: u64, p: u64) -> u64
     ensures { λ r. ⌜ r ≡ chainSize (now (w .entry)) c state p ⌝ }
@@ -81,7 +72,7 @@ fn chain_size(w: &[u64], c: Chain, state: u64, p: u64) -> u64
     let mut left: u64 = 4096;
     while 0 < left {
         if at == 0 {
-            return chain_end(w, c, before, n);
+            return queue::chain_end(w, c, before, n);
         }
         if !member_passes(w, at, state, p) {
             return 0;

@@ -1,9 +1,12 @@
 // The header in form: the limits, the length of the words, and the header's numbers.
 ghost use mathlib.Core.Path.{_≡_};
 ghost use mathlib.Core.Bool.{true};
-ghost use Rattle.form.specs.Header.{limitsPass, longEnough, countsPass, currentPasses, readyPasses, headerNumbers};
+ghost use Rattle.form.specs.Header.{limitsPass, longEnough, countsPass, currentPasses, readyPasses, policyPasses, lifetimesPass, headerNumbers};
 use kernel::open;
 use words::layout;
+
+// How many acceptances of DPC work there can be, and how many initializations of timers and of DPCs.
+const LIFETIME: u64 = 65_536;
 
 // Document 01: limits pass their checks.
 pub fn limits_pass(w: &[u64]) -> bool
@@ -26,7 +29,7 @@ pub fn is_long_enough(w: &[u64]) -> bool
     256 + 160 * t + 32 * (o + d) <= w.len() as u64
 }
 
-// At least one thread, no more of each than its limit, and no DPC.
+// At least one thread, and no more of each than its limit.
 fn counts_pass(w: &[u64]) -> bool
     ensures { λ r. ⌜ r ≡ countsPass (now (w .entry)) ⌝ }
 {
@@ -40,7 +43,7 @@ fn counts_pass(w: &[u64]) -> bool
     if words::get(w, layout::OBJECT_LIMIT) < words::get(w, layout::OBJECTS) {
         return false;
     }
-    words::get(w, layout::DPCS) == 0
+    words::get(w, layout::DPCS) <= words::get(w, layout::DPC_LIMIT)
 }
 
 // The current thread is 0 for none, or a thread.
@@ -61,6 +64,40 @@ fn ready_passes(w: &[u64]) -> bool
     words::bit_at(m, 0) == 0
 }
 
+// No policy, or one whose two timer arguments are not 0 and differ.
+fn policy_passes(w: &[u64]) -> bool
+    ensures { λ r. ⌜ r ≡ policyPasses (now (w .entry)) ⌝ }
+{
+    let policy = words::get(w, layout::POLICY);
+    if policy == 0 {
+        return true;
+    }
+    if policy != 1 {
+        return false;
+    }
+    let first = words::get(w, layout::TIMER_ARGUMENT);
+    if first == 0 {
+        return false;
+    }
+    let second = words::get(w, layout::TIMER_ARGUMENT_2);
+    if second == 0 {
+        return false;
+    }
+    first != second
+}
+
+fn lifetimes_pass(w: &[u64]) -> bool
+    ensures { λ r. ⌜ r ≡ lifetimesPass (now (w .entry)) ⌝ }
+{
+    if LIFETIME < words::get(w, layout::ACCEPTED) {
+        return false;
+    }
+    if LIFETIME < words::get(w, layout::TIMER_INITIALIZATIONS) {
+        return false;
+    }
+    words::get(w, layout::DPC_INITIALIZATIONS) <= LIFETIME
+}
+
 // Document 01: stored numbers pass their checks, of the header.
 pub fn numbers_pass(w: &[u64]) -> bool
     ensures { λ r. ⌜ r ≡ headerNumbers (now (w .entry)) ⌝ }
@@ -71,5 +108,11 @@ pub fn numbers_pass(w: &[u64]) -> bool
     if !current_passes(w) {
         return false;
     }
-    ready_passes(w)
+    if !ready_passes(w) {
+        return false;
+    }
+    if !policy_passes(w) {
+        return false;
+    }
+    lifetimes_pass(w)
 }

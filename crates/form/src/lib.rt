@@ -3,19 +3,28 @@
 //
 //   long enough                      header::is_long_enough
 //   limits pass their checks         header::limits_pass
-//   stored numbers pass theirs       header::numbers_pass, thread::numbers_pass, object::numbers_pass
-//   no key stands twice              object::key_rises
+//   stored numbers pass theirs       header::numbers_pass, thread::numbers_pass, object::numbers_pass, timer::numbers_pass,
+//                                    dpc::numbers_pass
+//   no key stands twice              form_dpc::key_rises, dpc::address_stands_once
 //   threads number 1 upward          nothing to test: a thread's number is the place of its record
 //   only the current one runs        thread::runs_if_current
 //   owners are live                  object::owner_lives
 //   waited objects exist             thread::waits_for_known
 //   no list names one twice          thread::waits_for_each_once
 //   sequences distinct, below next   chain::sequences_rise
-//   each chain holds its members     chain::waiters_stand_once, chain::ready_stand_once
+//   no work's sequence not given     dpc::sequence_is_given
+//   each chain holds its members     chain::waiters_stand_once, chain::ready_stand_once, queue::queue_stands_once
+//   a timer's DPC serves no other    timer::dpc_serves, dpc::is_named_rightly
+//   demand 3's sum holds             counts::sum_holds
+//   starts less restorations         counts::starts_pass
+//   returns less restorations        counts::returns_pass
 //
-// There are no timers and no DPCs yet: an object is a mutex or an event, and the count of DPCs is 0.
+// `timer`, `dpc`, `queue` and `counts` are modules of `form_dpc`.
 ghost use mathlib.Core.Path.{_≡_};
 ghost use Rattle.form.specs.Form.{inForm};
+use form_dpc::counts;
+use form_dpc::dpc;
+use form_dpc::queue;
 
 pub mod chain;
 pub mod header;
@@ -40,11 +49,26 @@ pub fn in_form(w: &[u64]) -> bool
     if !object::objects_pass(w) {
         return false;
     }
+    if !dpc::dpcs_pass(w) {
+        return false;
+    }
     if !chain::sequences_rise(w) {
         return false;
     }
     if !chain::waiters_stand_once(w) {
         return false;
     }
-    chain::ready_stand_once(w)
+    if !chain::ready_stand_once(w) {
+        return false;
+    }
+    if !queue::queue_stands_once(w) {
+        return false;
+    }
+    if !counts::sum_holds(w) {
+        return false;
+    }
+    if !counts::starts_pass(w) {
+        return false;
+    }
+    counts::returns_pass(w)
 }

@@ -1,7 +1,8 @@
-// The objects in form: each record's numbers, their order, and who owns the mutexes.
+// The objects in form: each record's numbers, their order, who owns the mutexes, and the timers' DPCs.
 ghost use mathlib.Core.Path.{_≡_};
-ghost use Rattle.form.specs.Object.{eventPasses, objectNumbers, keyRises, ownerLives, objectPasses, objectsPass};
+ghost use Rattle.form.specs.Object.{eventPasses, objectNumbers, ownerLives, objectPasses, objectsPass};
 use super::thread;
+use form_dpc::timer;
 use words::layout;
 
 // An event's two flags.
@@ -30,17 +31,10 @@ fn numbers_pass(w: &[u64], base: usize, i: u64) -> bool
     if kind == objects::EVENT {
         return event_passes(w, at);
     }
-    false
-}
-
-// Document 01: no key stands twice, for keys rise along the table.
-fn key_rises(w: &[u64], base: usize, i: u64) -> bool
-    ensures { λ r. ⌜ r ≡ keyRises (now (w .entry)) base i ⌝ }
-{
-    if i == 0 {
-        return true;
+    if kind == objects::TIMER {
+        return timer::numbers_pass(w, at);
     }
-    tables::key_at(w, base, i - 1) < tables::key_at(w, base, i)
+    false
 }
 
 // Document 01: owners are live.
@@ -65,10 +59,13 @@ fn object_passes(w: &[u64], base: usize, i: u64) -> bool
     if !numbers_pass(w, base, i) {
         return false;
     }
-    if !key_rises(w, base, i) {
+    if !form_dpc::key_rises(w, base, i) {
         return false;
     }
-    owner_lives(w, base, i)
+    if !owner_lives(w, base, i) {
+        return false;
+    }
+    timer::dpc_serves(w, layout::entry_at(base, i))
 }
 
 // Every object passes.

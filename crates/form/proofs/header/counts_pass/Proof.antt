@@ -31,9 +31,12 @@ returns-3 c = simp (← (c .before .before .before .before .before .before .get 
 get-requires-5 : tie.Need-get-requires-5
 get-requires-5 c κs = search needs
 
+get-requires-6 : tie.Need-get-requires-6
+get-requires-6 c κs = search needs
+
 returns-4 : tie.Need-returns-4
 unfolding countsPass
-returns-4 c = simp (← (c .before .before .before .before .before .before .before .get .ensures), ← (c .before .before .before .before .before .get2 .ensures), ← (c .before .before .before .get3 .ensures), ← (c .before .before .get4 .ensures), le-ltb _ _ (c .before .before .before .before .before .before .if1 .left), le-ltb _ _ (c .before .before .before .before .if2 .left), le-ltb _ _ (c .before .if3 .left)) (cc)
+returns-4 c = simp (← (c .before .before .before .before .before .before .before .before .get .ensures), ← (c .before .before .before .before .before .before .get2 .ensures), ← (c .before .before .before .before .get3 .ensures), ← (c .before .before .before .get4 .ensures), le-ltb _ _ (c .before .before .before .before .before .before .before .if1 .left), le-ltb _ _ (c .before .before .before .before .before .if2 .left), le-ltb _ _ (c .before .before .if3 .left)) (cc)
 
 pub counts-pass-spec : {M : Type 1} → statement M
 counts-pass-spec =
@@ -47,4 +50,5 @@ counts-pass-spec =
     get-requires-4
     returns-3
     get-requires-5
+    get-requires-6
     returns-4)

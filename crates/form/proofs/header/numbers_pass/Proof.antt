@@ -24,7 +24,21 @@ ready-passes-requires c κs = search needs
 
 returns-3 : tie.Need-returns-3
 unfolding headerNumbers
-returns-3 c = simp (sym (c .before .before .before .before .counts-pass .ensures) ∙ not-false _ (c .before .before .before .if1 .left), sym (c .before .before .current-passes .ensures) ∙ not-false _ (c .before .if2 .left)) (cc)
+returns-3 c = simp (sym (c .before .before .before .before .before .counts-pass .ensures) ∙ not-false _ (c .before .before .before .before .if1 .left), sym (c .before .before .before .current-passes .ensures) ∙ not-false _ (c .before .before .if2 .left), sym (c .before .ready-passes .ensures) ∙ not-true _ (c .if3 .taken))
+
+policy-passes-requires : tie.Need-policy-passes-requires
+policy-passes-requires c κs = search needs
+
+returns-4 : tie.Need-returns-4
+unfolding headerNumbers
+returns-4 c = simp (sym (c .before .before .before .before .before .before .before .counts-pass .ensures) ∙ not-false _ (c .before .before .before .before .before .before .if1 .left), sym (c .before .before .before .before .before .current-passes .ensures) ∙ not-false _ (c .before .before .before .before .if2 .left), sym (c .before .before .before .ready-passes .ensures) ∙ not-false _ (c .before .before .if3 .left), sym (c .before .policy-passes .ensures) ∙ not-true _ (c .if4 .taken))
+
+lifetimes-pass-requires : tie.Need-lifetimes-pass-requires
+lifetimes-pass-requires c κs = search needs
+
+returns-5 : tie.Need-returns-5
+unfolding headerNumbers
+returns-5 c = simp (sym (c .before .before .before .before .before .before .before .before .counts-pass .ensures) ∙ not-false _ (c .before .before .before .before .before .before .before .if1 .left), sym (c .before .before .before .before .before .before .current-passes .ensures) ∙ not-false _ (c .before .before .before .before .before .if2 .left), sym (c .before .before .before .before .ready-passes .ensures) ∙ not-false _ (c .before .before .before .if3 .left), sym (c .before .before .policy-passes .ensures) ∙ not-false _ (c .before .if4 .left)) (cc)
 
 pub numbers-pass-spec : {M : Type 1} → statement M
 numbers-pass-spec =
@@ -35,4 +49,8 @@ numbers-pass-spec =
     current-passes-requires
     returns-2
     ready-passes-requires
-    returns-3)
+    returns-3
+    policy-passes-requires
+    returns-4
+    lifetimes-pass-requires
+    returns-5)

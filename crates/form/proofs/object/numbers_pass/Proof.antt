@@ -28,9 +28,16 @@ returns-3 : tie.Need-returns-3
 unfolding objectNumbers
 returns-3 c = simp (← (c .before .before .before .before .before .key-at .ensures), ne-eqb _ _ (c .before .before .before .before .if1 .left), ← (c .before .before .before .before .before .before .entry-at .ensures), ← (c .before .before .before .get-in .ensures), ne-eqb _ _ (c .before .before .if2 .left), eq-eqb _ _ (c .before .if3 .taken)) (cc)
 
+numbers-pass-requires : tie.Need-numbers-pass-requires
+numbers-pass-requires c κs = search needs
+
 returns-4 : tie.Need-returns-4
 unfolding objectNumbers
-returns-4 c = simp (← (c .before .before .before .before .key-at .ensures), ne-eqb _ _ (c .before .before .before .if1 .left), ← (c .before .before .before .before .before .entry-at .ensures), ← (c .before .before .get-in .ensures), ne-eqb _ _ (c .before .if2 .left), ne-eqb _ _ (c .if3 .left))
+returns-4 c = simp (← (c .before .before .before .before .before .before .key-at .ensures), ne-eqb _ _ (c .before .before .before .before .before .if1 .left), ← (c .before .before .before .before .before .before .before .entry-at .ensures), ← (c .before .before .before .before .get-in .ensures), ne-eqb _ _ (c .before .before .before .if2 .left), ne-eqb _ _ (c .before .before .if3 .left), eq-eqb _ _ (c .before .if4 .taken)) (cc)
+
+returns-5 : tie.Need-returns-5
+unfolding objectNumbers
+returns-5 c = simp (← (c .before .before .before .before .before .key-at .ensures), ne-eqb _ _ (c .before .before .before .before .if1 .left), ← (c .before .before .before .before .before .before .entry-at .ensures), ← (c .before .before .before .get-in .ensures), ne-eqb _ _ (c .before .before .if2 .left), ne-eqb _ _ (c .before .if3 .left), ne-eqb _ _ (c .if4 .left))
 
 pub numbers-pass-spec : {M : Type 1} → statement M
 numbers-pass-spec =
@@ -43,4 +50,6 @@ numbers-pass-spec =
     returns-2
     event-passes-requires
     returns-3
-    returns-4)
+    numbers-pass-requires
+    returns-4
+    returns-5)

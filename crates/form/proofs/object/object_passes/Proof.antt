@@ -24,7 +24,17 @@ owner-lives-requires c κs = search needs
 
 returns-3 : tie.Need-returns-3
 unfolding objectPasses
-returns-3 c = simp (sym (c .before .before .before .before .numbers-pass .ensures) ∙ not-false _ (c .before .before .before .if1 .left), sym (c .before .before .key-rises .ensures) ∙ not-false _ (c .before .if2 .left)) (cc)
+returns-3 c = simp (sym (c .before .before .before .before .before .numbers-pass .ensures) ∙ not-false _ (c .before .before .before .before .if1 .left), sym (c .before .before .before .key-rises .ensures) ∙ not-false _ (c .before .before .if2 .left), sym (c .before .owner-lives .ensures) ∙ not-true _ (c .if3 .taken))
+
+entry-at-requires : tie.Need-entry-at-requires
+entry-at-requires c κs = search needs
+
+dpc-serves-requires : tie.Need-dpc-serves-requires
+dpc-serves-requires c κs = search needs
+
+returns-4 : tie.Need-returns-4
+unfolding objectPasses
+returns-4 c = simp (sym (c .before .before .before .before .before .before .before .numbers-pass .ensures) ∙ not-false _ (c .before .before .before .before .before .before .if1 .left), sym (c .before .before .before .before .before .key-rises .ensures) ∙ not-false _ (c .before .before .before .before .if2 .left), sym (c .before .before .before .owner-lives .ensures) ∙ not-false _ (c .before .before .if3 .left)) (cc)
 
 pub object-passes-spec : {M : Type 1} → statement M
 object-passes-spec =
@@ -35,4 +45,7 @@ object-passes-spec =
     key-rises-requires
     returns-2
     owner-lives-requires
-    returns-3)
+    returns-3
+    entry-at-requires
+    dpc-serves-requires
+    returns-4)

@@ -1,8 +1,8 @@
 use borrow.Author.Tests.{eq-eqb, ne-eqb}
-use Rattle.form.specs.Object.{keyRises}
+use Rattle.form_dpc.specs.Place.{keyRises}
 use borrow.Author.Needs.{needs}
-use Rattle.form.proofs.object.key_rises.Statement.{statement}
-use Rattle.form.proofs.object.key_rises.Tie as tie
+use Rattle.form_dpc.proofs.key_rises.Statement.{statement}
+use Rattle.form_dpc.proofs.key_rises.Tie as tie
 
 returns : tie.Need-returns
 unfolding keyRises

@@ -1,8 +1,8 @@
 use borrow.Author.Tests.{eq-eqb, ne-eqb}
-use Rattle.form.specs.Chain.{chainEnd}
+use Rattle.form_dpc.specs.Queue.{chainEnd}
 use borrow.Author.Needs.{needs}
-use Rattle.form.proofs.chain.chain_end.Statement.{statement}
-use Rattle.form.proofs.chain.chain_end.Tie as tie
+use Rattle.form_dpc.proofs.queue.chain_end.Statement.{statement}
+use Rattle.form_dpc.proofs.queue.chain_end.Tie as tie
 
 cast-get : tie.Need-cast-get
 cast-get c = search needs

@@ -1,0 +1,72 @@
+-- The DPCs in form. Word 0 of a DPC's record is its address, 1 its phase (0 idle, 1 queued, 2 running, 3 returning), 3 the
+-- inserted timer that has it, 4 the architecture, 5 to 8 the backing, 11 the work's sequence, 14 its origin, 20 periodic.
+use mathlib.Core.Bool.{Bool, cond, true, false}
+use Prim.Native.Nat.{ℕ, zero, suc, _+_}
+use mathlib.Core.List.{List}
+use lib.ListN.{getD}
+use lib.Dec.{eqb, leb, ltb}
+use Rattle.words.specs.Layout as at
+use Rattle.words.specs.Layout.{entryAt}
+use Rattle.tables.specs.Table.{keyAt}
+use Rattle.objects.specs.Objects.{dpcsBase, objectFound, placeOf}
+use Rattle.images.specs.Place.{architectureOf, dpcSize}
+use Rattle.dpcs.specs.Record.{dpcCount}
+use Rattle.form_dpc.specs.Place.{keyRises, located}
+use Rattle.form_dpc.specs.Timer.{hasDpc}
+
+unfoldable pub dpcPlaced : List ℕ → ℕ → Bool
+dpcPlaced w place = located w place 4 (dpcSize (architectureOf (getD w (place + 4) 0)))
+
+-- the flags of its work, which says nothing while the DPC is idle
+unfoldable pub workPasses : List ℕ → ℕ → Bool
+workPasses w place =
+    cond (eqb (getD w (place + 1) 0) 0) true (cond (ltb 1 (getD w (place + 14) 0)) false (leb (getD w (place + 20) 0) 1))
+
+-- document 01: stored numbers pass their checks, of a DPC
+unfoldable pub dpcNumbers : List ℕ → ℕ → Bool
+dpcNumbers w place = cond (ltb 3 (getD w (place + 1) 0)) false (cond (dpcPlaced w place) (workPasses w place) false)
+
+-- document 01: no key stands twice, of a DPC: neither in its own table nor in that of the objects
+unfoldable pub addressOnce : List ℕ → ℕ → ℕ → Bool
+addressOnce w base i = cond (keyRises w base i) (eqb (objectFound w (keyAt w base i)) 0) false
+
+-- document 01: no queued or active work bears a sequence not yet given
+unfoldable pub sequenceGiven : List ℕ → ℕ → Bool
+sequenceGiven w place =
+    cond (eqb (getD w (place + 1) 0) 0) true
+    (cond (eqb (getD w (place + 11) 0) 0) false (leb (getD w (place + 11) 0) (getD w at.accepted 0)))
+
+-- whom a DPC says it serves is an inserted timer that has it
+unfoldable pub namedRightly : List ℕ → ℕ → Bool
+namedRightly w place =
+    let key = getD w (place + 3) 0 in
+    cond (eqb key 0) true (cond (eqb (placeOf w 2 key) 0) false (hasDpc w (placeOf w 2 key) (getD w place 0)))
+
+unfoldable pub dpcPasses : List ℕ → ℕ → ℕ → Bool
+dpcPasses w base i =
+    let place = entryAt base i in
+    cond (dpcNumbers w place) (cond (addressOnce w base i) (cond (sequenceGiven w place) (namedRightly w place) false) false) false
+
+-- the `m` DPCs from place `i` on pass
+unfoldable pub dpcsIn : ℕ → List ℕ → ℕ → ℕ → Bool
+dpcsIn zero w base i = true
+dpcsIn (suc m) w base i = cond (dpcPasses w base i) (dpcsIn m w base (i + 1)) false
+
+unfoldable pub dpcsPass : List ℕ → Bool
+dpcsPass w = dpcsIn (dpcCount w) w (dpcsBase w) 0
+
+-- ---- how many DPCs have a phase
+
+unfoldable pub hasPhase : List ℕ → ℕ → ℕ → Bool
+hasPhase w place phase = eqb (getD w (place + 1) 0) phase
+
+unfoldable pub phaseOne : List ℕ → ℕ → ℕ → ℕ
+phaseOne w place phase = cond (hasPhase w place phase) 1 0
+
+-- of the `m` DPCs from place `i` on
+unfoldable pub phaseCountIn : ℕ → List ℕ → ℕ → ℕ → ℕ → ℕ
+phaseCountIn zero w base i phase = 0
+phaseCountIn (suc m) w base i phase = phaseOne w (entryAt base i) phase + phaseCountIn m w base (i + 1) phase
+
+unfoldable pub phaseCount : List ℕ → ℕ → ℕ
+phaseCount w phase = phaseCountIn (dpcCount w) w (dpcsBase w) 0 phase

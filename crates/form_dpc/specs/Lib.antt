@@ -1,0 +1,5 @@
+pub mod Place
+pub mod Timer
+pub mod Dpc
+pub mod Queue
+pub mod Counts

@@ -1,0 +1,46 @@
+-- The timers in form. Word 0 of a timer's record is its key, 1 its kind (2), 2 manual, 3 signaled, 5 inserted, 7 the period,
+-- 8 the DPC, 9 absolute, 11 the initialization, 12 the architecture, 13 to 16 the backing.
+use mathlib.Core.Bool.{Bool, cond, true, false}
+use Prim.Native.Nat.{ℕ, _+_}
+use mathlib.Core.List.{List}
+use lib.ListN.{getD}
+use lib.Dec.{eqb, leb, ltb}
+use Rattle.words.specs.Layout as at
+use Rattle.objects.specs.Objects.{dpcFound}
+use Rattle.images.specs.Place.{architectureOf, timerSize}
+use Rattle.form_dpc.specs.Place.{located}
+
+-- its four flags
+unfoldable pub timerFlags : List ℕ → ℕ → Bool
+timerFlags w place =
+    cond (ltb 1 (getD w (place + 2) 0)) false
+    (cond (ltb 1 (getD w (place + 3) 0)) false
+    (cond (ltb 1 (getD w (place + 5) 0)) false (leb (getD w (place + 9) 0) 1)))
+
+-- its period is no negative i32, and its initialization has been
+unfoldable pub timerTimes : List ℕ → ℕ → Bool
+timerTimes w place =
+    cond (ltb 2147483647 (getD w (place + 7) 0)) false
+    (cond (eqb (getD w (place + 11) 0) 0) false (leb (getD w (place + 11) 0) (getD w at.timerInitializations 0)))
+
+unfoldable pub timerPlaced : List ℕ → ℕ → Bool
+timerPlaced w place = located w place 12 (timerSize (architectureOf (getD w (place + 12) 0)))
+
+-- document 01: stored numbers pass their checks, of a timer
+unfoldable pub timerNumbers : List ℕ → ℕ → Bool
+timerNumbers w place = cond (timerFlags w place) (cond (timerTimes w place) (timerPlaced w place) false) false
+
+-- the DPC exists and says that the timer with the key has it: word 3 of its record
+unfoldable pub servesIt : List ℕ → ℕ → ℕ → Bool
+servesIt w dpc key = cond (eqb (dpcFound w dpc) 0) false (eqb (getD w (dpcFound w dpc + 3) 0) key)
+
+-- document 01: an inserted timer's DPC, if any, exists and serves no other
+unfoldable pub dpcServes : List ℕ → ℕ → Bool
+dpcServes w place =
+    let dpc = getD w (place + 8) 0 in
+    cond (eqb (getD w (place + 1) 0) 2)
+    (cond (eqb (getD w (place + 5) 0) 0) true (cond (eqb dpc 0) true (servesIt w dpc (getD w place 0)))) true
+
+-- the timer is inserted and has the DPC
+unfoldable pub hasDpc : List ℕ → ℕ → ℕ → Bool
+hasDpc w place dpc = cond (eqb (getD w (place + 5) 0) 0) false (eqb (getD w (place + 8) 0) dpc)

@@ -1,0 +1,150 @@
+// The DPCs in form: each record's numbers, its address, its work and its timer; and how many have a phase.
+ghost use mathlib.Core.Path.{_≡_};
+ghost use Rattle.form_dpc.specs.Dpc.{dpcPlaced, workPasses, dpcNumbers, addressOnce, sequenceGiven, namedRightly, dpcPasses, dpcsPass, hasPhase, phaseOne, phaseCount};
+use super::timer;
+use dpcs::record;
+use words::layout;
+
+pub const IDLE: u64 = 0;
+
+pub const QUEUED: u64 = 1;
+
+pub const RUNNING: u64 = 2;
+
+pub const RETURNING: u64 = 3;
+
+fn location_passes(w: &[u64], at: usize) -> bool
+    ensures { λ r. ⌜ r ≡ dpcPlaced (now (w .entry)) at ⌝ }
+{
+    let a = images::architecture_of(words::get_in(w, at, layout::DPC_ARCHITECTURE));
+    super::location_passes(w, at, layout::DPC_ARCHITECTURE, images::dpc_size(a))
+}
+
+// The flags of its work, which says nothing while the DPC is idle.
+fn work_passes(w: &[u64], at: usize) -> bool
+    ensures { λ r. ⌜ r ≡ workPasses (now (w .entry)) at ⌝ }
+{
+    if words::get_in(w, at, layout::PHASE) == IDLE {
+        return true;
+    }
+    if 1 < words::get_in(w, at, layout::ORIGIN) {
+        return false;
+    }
+    words::get_in(w, at, layout::ORIGIN_PERIODIC) <= 1
+}
+
+// Document 01: stored numbers pass their checks, of a DPC. No location has the address 0.
+fn numbers_pass(w: &[u64], at: usize) -> bool
+    ensures { λ r. ⌜ r ≡ dpcNumbers (now (w .entry)) at ⌝ }
+{
+    if RETURNING < words::get_in(w, at, layout::PHASE) {
+        return false;
+    }
+    if !location_passes(w, at) {
+        return false;
+    }
+    work_passes(w, at)
+}
+
+// Document 01: no key stands twice, of a DPC: neither in its own table nor in that of the objects.
+fn address_stands_once(w: &[u64], base: usize, i: u64) -> bool
+    ensures { λ r. ⌜ r ≡ addressOnce (now (w .entry)) base i ⌝ }
+{
+    if !super::key_rises(w, base, i) {
+        return false;
+    }
+    objects::find_object(w, tables::key_at(w, base, i)) == 0
+}
+
+// Document 01: no queued or active work bears a sequence not yet given. They are given from 1 on, one an acceptance.
+fn sequence_is_given(w: &[u64], at: usize) -> bool
+    ensures { λ r. ⌜ r ≡ sequenceGiven (now (w .entry)) at ⌝ }
+{
+    if words::get_in(w, at, layout::PHASE) == IDLE {
+        return true;
+    }
+    let sequence = words::get_in(w, at, layout::WORK_SEQUENCE);
+    if sequence == 0 {
+        return false;
+    }
+    sequence <= words::get(w, layout::ACCEPTED)
+}
+
+// Whom a DPC says it serves is an inserted timer that has it.
+fn is_named_rightly(w: &[u64], at: usize) -> bool
+    ensures { λ r. ⌜ r ≡ namedRightly (now (w .entry)) at ⌝ }
+{
+    let key = words::get_in(w, at, layout::NAMED_BY);
+    if key == 0 {
+        return true;
+    }
+    let place = objects::place_of(w, objects::TIMER, key);
+    if place == 0 {
+        return false;
+    }
+    timer::has_dpc(w, place, words::get(w, at))
+}
+
+fn dpc_passes(w: &[u64], base: usize, i: u64) -> bool
+    ensures { λ r. ⌜ r ≡ dpcPasses (now (w .entry)) base i ⌝ }
+{
+    let at = layout::entry_at(base, i);
+    if !numbers_pass(w, at) {
+        return false;
+    }
+    if !address_stands_once(w, base, i) {
+        return false;
+    }
+    if !sequence_is_given(w, at) {
+        return false;
+    }
+    is_named_rightly(w, at)
+}
+
+// Every DPC passes.
+pub fn dpcs_pass(w: &[u64]) -> bool
+    ensures { λ r. ⌜ r ≡ dpcsPass (now (w .entry)) ⌝ }
+{
+    let base = objects::dpcs_base(w);
+    let mut i: u64 = 0;
+    let mut left = record::count(w);
+    while 0 < left {
+        if !dpc_passes(w, base, i) {
+            return false;
+        }
+        i += 1;
+        left -= 1;
+    }
+    true
+}
+
+pub fn has_phase(w: &[u64], at: usize, phase: u64) -> bool
+    ensures { λ r. ⌜ r ≡ hasPhase (now (w .entry)) at phase ⌝ }
+{
+    words::get_in(w, at, layout::PHASE) == phase
+}
+
+fn one_if(w: &[u64], at: usize, phase: u64) -> u64
+    ensures { λ r. ⌜ r ≡ phaseOne (now (w .entry)) at phase ⌝ }
+{
+    if has_phase(w, at, phase) {
+        return 1;
+    }
+    0
+}
+
+// How many DPCs have the phase.
+pub fn phase_count(w: &[u64], phase: u64) -> u64
+    ensures { λ r. ⌜ r ≡ phaseCount (now (w .entry)) phase ⌝ }
+{
+    let base = objects::dpcs_base(w);
+    let mut i: u64 = 0;
+    let mut n: u64 = 0;
+    let mut left = record::count(w);
+    while 0 < left {
+        n += one_if(w, layout::entry_at(base, i), phase);
+        i += 1;
+        left -= 1;
+    }
+    n
+}

@@ -1,0 +1,40 @@
+// The timers and the DPCs in form: what `form` tests of them, clause by clause of document 01's sentence.
+ghost use mathlib.Core.Path.{_≡_};
+ghost use Prim.Native.Nat.{_≤_};
+ghost use Rattle.form_dpc.specs.Place.{keyRises, located};
+
+pub mod counts;
+pub mod dpc;
+pub mod queue;
+pub mod timer;
+
+// Document 01: no key stands twice, for keys rise along each table.
+pub fn key_rises(w: &[u64], base: usize, i: u64) -> bool
+    ensures { λ r. ⌜ r ≡ keyRises (now (w .entry)) base i ⌝ }
+{
+    if i == 0 {
+        return true;
+    }
+    tables::key_at(w, base, i - 1) < tables::key_at(w, base, i)
+}
+
+// Whether what stands at place `at` may stand in the guest's memory as its words say, with `size` bytes. The five words from
+// `from` on are its architecture and its backing with the base, the size and the mapped bytes.
+fn location_passes(w: &[u64], at: usize, from: usize, size: u64) -> bool
+    requires { ⌜ from ≤ 12 ⌝ }
+    ensures { λ r. ⌜ r ≡ located (now (w .entry)) at from size ⌝ }
+{
+    let n = words::get_in(w, at, from);
+    if 1 < n {
+        return false;
+    }
+    let kind = words::get_in(w, at, from + 1);
+    if 1 < kind {
+        return false;
+    }
+    let base = words::get_in(w, at, from + 2);
+    let length = words::get_in(w, at, from + 3);
+    let mapped = words::get_in(w, at, from + 4);
+    let b = images::backing_of(kind, base, length, mapped);
+    images::location_refusal(words::get(w, at), size, images::architecture_of(n), b) == 0
+}
