@@ -1,8 +1,6 @@
 // Runs a script: one call a line, from the file that the first argument names or from standard input, and one line of answer for each.
-mod lines;
-mod session;
-
 use libc::STDIN_FILENO;
+use runner::lines;
 
 // A proved loop has to end, and nothing says that a file does. So the loop counts its turns down, from a number that no run
 // uses up.

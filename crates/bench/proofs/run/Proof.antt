@@ -3,9 +3,9 @@ use Rattle.bench.proofs.run.Statement.{statement}
 use Rattle.bench.proofs.run.Tie as tie
 use Rattle.bench.proofs.run.Reads as reads
 use Rattle.bench.proofs.run.Lts as lts
-use Rattle.bench.proofs.lines.end.Reads as end-reads
-use Rattle.bench.proofs.lines.start.Reads as start-reads
-use Rattle.bench.proofs.lines.take.Reads as take-reads
+use Rattle.runner.proofs.lines.end.Reads as end-reads
+use Rattle.runner.proofs.lines.start.Reads as start-reads
+use Rattle.runner.proofs.lines.take.Reads as take-reads
 use Rattle.io.proofs.count.Reads as count-reads
 use Rattle.libc.proofs.read.Reads as read-reads
 use mathlib.Core.Path.{_≡_}

@@ -54,7 +54,7 @@ fn finish(
     }
 }
 
-fn byte(
+pub fn byte(
     w: &mut [u64],
     waiting: &mut [u64],
     list: &mut [u64],

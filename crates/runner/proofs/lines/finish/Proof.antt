@@ -1,12 +1,12 @@
 use lib.ListN.{length-take}
 use native.Mathlib.Omega.{arith}
 use borrow.Author.Needs.{needs}
-use Rattle.bench.proofs.lines.finish.Statement.{statement}
-use Rattle.bench.proofs.lines.finish.Tie as tie
-use Rattle.bench.proofs.lines.finish.Reads as reads
-use Rattle.bench.proofs.lines.finish.Lts as lts
-use Rattle.bench.proofs.lines.shown.Reads as shown-reads
-use Rattle.bench.proofs.session.perform.Reads as perform-reads
+use Rattle.runner.proofs.lines.finish.Statement.{statement}
+use Rattle.runner.proofs.lines.finish.Tie as tie
+use Rattle.runner.proofs.lines.finish.Reads as reads
+use Rattle.runner.proofs.lines.finish.Lts as lts
+use Rattle.runner.proofs.lines.shown.Reads as shown-reads
+use Rattle.runner.proofs.session.perform.Reads as perform-reads
 use Rattle.io.proofs.write_all.Reads as write-all-reads
 use Rattle.script.proofs.command.read_line.Reads as read-line-reads
 use Rattle.script.proofs.print.write_answer.Reads as write-answer-reads

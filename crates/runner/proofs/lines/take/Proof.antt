@@ -3,11 +3,11 @@ use mathlib.Core.Path.{_≡_}
 use Prim.Native.Nat.{_≤_, _-_}
 use lib.ListN.{length}
 use borrow.Author.Needs.{needs}
-use Rattle.bench.proofs.lines.take.Statement.{statement}
-use Rattle.bench.proofs.lines.take.Tie as tie
-use Rattle.bench.proofs.lines.take.Reads as reads
-use Rattle.bench.proofs.lines.take.Lts as lts
-use Rattle.bench.proofs.lines.byte.Reads as byte-reads
+use Rattle.runner.proofs.lines.take.Statement.{statement}
+use Rattle.runner.proofs.lines.take.Tie as tie
+use Rattle.runner.proofs.lines.take.Reads as reads
+use Rattle.runner.proofs.lines.take.Lts as lts
+use Rattle.runner.proofs.lines.byte.Reads as byte-reads
 
 abbrev Inv-loop : tie.InvT-loop
 Inv-loop w₀ waiting₀ list₀ line₀ text₀ chunk at₀ i₀ w waiting list line text at i = (i ≤ length chunk) × (length w ≡ length w₀) × (length waiting ≡ length waiting₀) × (length list ≡ length list₀) × (length line ≡ length line₀) × (length text ≡ length text₀)

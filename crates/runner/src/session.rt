@@ -6,6 +6,7 @@ use clock::Done;
 use clock::GuestClock;
 use clock::Outcome;
 use clock::Reading;
+use dpc::calls::WorkAnswer;
 use script::command::Command;
 
 // Threads, objects and DPCs of a script's scheduler. It needs 6912 words.
@@ -48,6 +49,101 @@ fn error_number(why: ClockError) -> u64 {
         ClockError::InvalidConfiguration => 25,
         ClockError::Overflow => 26,
         ClockError::OutOfForm => 27,
+    }
+}
+
+// What `start_dpc` prints of the work: its sequence.
+fn sequence_of(a: WorkAnswer) -> Answer {
+    match a {
+        WorkAnswer::Refused(n) => Answer::Refused(n),
+        WorkAnswer::Work(work) => Answer::Count(work.sequence),
+    }
+}
+
+// The commands on DPCs; another is none of them.
+fn on_dpcs(w: &mut [u64], c: Command) -> Answer {
+    match c {
+        Command::DpcInitializations => dpc::reads::dpc_initializations(w),
+        Command::InitializeDpc {
+            address,
+            architecture,
+            backing,
+            routine,
+            context,
+        } => timers::initialize::initialize_dpc(
+            w,
+            address,
+            architecture,
+            backing,
+            routine,
+            context,
+        ),
+        Command::ConfigureDpcDispatch { first, second } => dpc::calls::configure_dpc_dispatch(
+            w,
+            first,
+            second,
+        ),
+        Command::QueuedDpcs(position) => dpc::reads::queued_dpcs(w, position),
+        Command::InsertQueueDpc {
+            address,
+            first,
+            second,
+        } => dpc::calls::insert_queue_dpc(w, address, first, second),
+        Command::RemoveQueueDpc(address) => dpc::calls::remove_queue_dpc(w, address),
+        Command::StartDpc(address) => sequence_of(dpc::calls::start_dpc(w, address)),
+        Command::ReturnedDpc { address, sequence } => dpc::calls::returned_dpc(
+            w,
+            address,
+            sequence,
+        ),
+        Command::RestoredDpc { address, sequence } => dpc::calls::restored_dpc(
+            w,
+            address,
+            sequence,
+        ),
+        _ => Answer::Refused(28),
+    }
+}
+
+// The commands on timers, and on DPCs.
+fn on_timers(w: &mut [u64], c: Command) -> Answer {
+    match c {
+        Command::TimerInitializations => timers::reads::timer_initializations(w),
+        Command::TimerReadOverlap { address, size } => timers::reads::timer_read_overlap(
+            w,
+            address,
+            size,
+        ),
+        Command::TimerMetadataOverlap { address, size } => timers::reads::timer_metadata_overlap(
+            w,
+            address,
+            size,
+        ),
+        Command::InitializeTimer {
+            address,
+            architecture,
+            backing,
+            manual,
+        } => timers::initialize::initialize_timer(w, address, architecture, backing, manual),
+        Command::SetTimer {
+            address,
+            due,
+            absolute,
+            period,
+            dpc,
+        } => timers::arm::set_timer(w, address, due, absolute, period, dpc),
+        Command::CancelTimer(address) => timers::arm::cancel_timer(w, address),
+        Command::RequireTimerRelease { address, size } => timers::release::require_timer_release(
+            w,
+            address,
+            size,
+        ),
+        Command::RetireTimerBacking { address, size } => timers::release::retire_timer_backing(
+            w,
+            address,
+            size,
+        ),
+        _ => on_dpcs(w, c),
     }
 }
 
@@ -97,7 +193,7 @@ fn on_scheduler(w: &mut [u64], waiting: &mut [u64], list: &[u64], c: Command) ->
         Command::ReleaseMutex(key) => sync::mutexes::release_mutex(w, key),
         Command::ResetEvent(key) => sync::events::reset_event(w, key),
         Command::Terminate(status) => kernel::thread::terminate(w, status),
-        _ => Answer::Refused(28),
+        _ => on_timers(w, c),
     }
 }
 
