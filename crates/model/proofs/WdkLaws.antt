@@ -1,0 +1,333 @@
+-- A step that is not refused reports what Microsoft's pages say.
+use Prim.Native.Nat.{ℕ, zero, suc, _<_}
+use mathlib.Core.List.{List, [], _∷_}
+use mathlib.Core.Bool.{Bool, true, false, cond, not}
+use mathlib.Core.Option.{Option, none, some}
+use mathlib.Core.Path.{_≡_, refl, sym, ap, _∙_, subst}
+use mathlib.Core.Logic.{_⊎_, inl, inr}
+use native.Mathlib.Omega.{arith}
+use native.Mathlib.Decide.{ℕ-discrete}
+use borrow.Author.Tests.{eqb-true, eq-eqb, ne-eqb}
+use lib.Dec.{eqb, leb, ltb}
+use lib.IntN.{ℤ}
+use lib.ListN.{getD, length}
+use Rattle.images.specs.declared.Timer.{Timer}
+use Rattle.images.specs.declared.DpcOrigin.the-variants as origin
+use Rattle.model.specs.Lists.{Mem, any, nth, present, given, isEmpty}
+use Rattle.model.specs.State.{State, Dispatcher, Named, Event, Object, mutex, event, timer}
+use Rattle.model.specs.Threads.{isThread, hasExited, statusOf, becomes, blocked, withObjects}
+use Rattle.model.specs.Waits.{keyOf, kindOf, objectAt, eventAt, timerAt, ofKind, namedIn, isFree, isAvailable, sameNamed, listed, putObject, takenBy, take, takeEvery, everyAvailable, firstAvailable, noObject, isMet, reached, signaledAs, wake}
+use Rattle.model.specs.Dpcs.{dpcAt, phaseAt, isQueued, isBusy, accepted, duplicated, withdrawn}
+use Rattle.model.specs.Timers.{most, isNamedByOther, armed, cancelled}
+use Rattle.model.specs.Refusal.{pairs, hasDuplicate, badList, waitRefusal, signalRefusal, isNegative, armRefusal, setRefusal, formerBusy, unknownTimer}
+use Rattle.model.specs.Step.{refusal, effect, step, eventSet, timerSet, timerCancelled, dpcInserted, dpcRemoved, waited, granted, timedOut, blocks, periodOf, cancelsWork, withDispatcher, withDpcs, withTable}
+use Rattle.model.specs.Answer.{Answer, gives, Flag, Refused, Satisfied, Timeout, Blocked, Done, Outcome}
+use Rattle.model.specs.Call.{Call, SetEvent, SetTimer, CancelTimer, InsertQueueDpc, RemoveQueueDpc, Wait}
+use Rattle.model.specs.Valid.{Valid}
+use Rattle.model.specs.Wdk.{wasSignaled, inTimerQueue, inDpcQueue, isSignaled, signaledNow, TakenBy, WaitAny, WaitAll}
+use Rattle.model.proofs.ListLaws.{not-both, last-own, out-own, neither, any-false, any-at}
+use Rattle.model.proofs.TableLaws.{some-same, none-some, found, find-put-own, find-put-other}
+use Rattle.model.proofs.RowLaws.{passes, holds, there, same-named}
+
+-- an accepted call has its effect
+pub step-is : (c : Call) (s : State) → refusal c s ≡ 0 → step c s ≡ effect c s
+unfolding step
+step-is c s e = ap (λ (b : Bool). cond b (effect c s) (gives (Refused (refusal c s)) s)) (eq-eqb (refusal c s) 0 e)
+
+-- ---- KeSetEvent
+
+pub set-event-reports : (s : State) (key : ℕ) → refusal (SetEvent key) s ≡ 0 → step (SetEvent key) s .answer ≡ Flag (wasSignaled s key)
+unfolding refusal signalRefusal effect eventSet
+set-event-reports s key e =
+    ap (λ (o : Outcome). o .answer) (step-is (SetEvent key) s e)
+    ∙ go (eventAt (s .dispatcher .objects) key) (holds (present (eventAt (s .dispatcher .objects) key)) 1 0 e .0)
+  where
+    go : (o : Option Event) → present o ≡ true
+        → given o (gives Done s) (λ (x : Event). gives (Flag (x .signaled)) (withDispatcher s (wake (withObjects (s .dispatcher) (putObject (signaledAs true x) (s .dispatcher .objects)))))) .answer
+        ≡ Flag (given o false (λ (x : Event). x .signaled))
+    go none z = absurd (not-both (sym z))
+    go (some x) z = refl
+
+-- ---- KeSetTimerEx, KeCancelTimer
+
+-- an accepted set finds the timer
+set-known : (s : State) (address : ℕ) (period : ℤ) (dpc : ℕ) → setRefusal s address period dpc ≡ 0 → present (timerAt (s .dispatcher .objects) address) ≡ true
+unfolding setRefusal armRefusal
+set-known s address period dpc e = go (eqb dpc 0) (passes (isNegative period) 16 _ e .1)
+  where
+    timer-there : armRefusal s address ≡ 0 → present (timerAt (s .dispatcher .objects) address) ≡ true
+    timer-there z =
+        let t = there (timerAt (s .dispatcher .objects) address) 1 (λ (x : Timer). cond (formerBusy s x) 19 (cond (leb most (x .«arm_generation»)) 24 0)) z in ap present (t .1)
+
+    go : (b : Bool)
+        → cond b (armRefusal s address) (cond (present (dpcAt (s .dpcs .table) dpc)) (cond (isNamedByOther (s .dispatcher .objects) address dpc) 18 (cond (isBusy (phaseAt (s .dpcs .table) dpc)) 19 (armRefusal s address))) 2) ≡ 0
+        → present (timerAt (s .dispatcher .objects) address) ≡ true
+    go true z = timer-there z
+    go false z =
+        let a = holds (present (dpcAt (s .dpcs .table) dpc)) 1 _ z in
+        let b = passes (isNamedByOther (s .dispatcher .objects) address dpc) 17 _ (a .1) in
+        let c = passes (isBusy (phaseAt (s .dpcs .table) dpc)) 18 _ (b .1) in
+        timer-there (c .1)
+
+pub set-timer-reports : (s : State) (address due : ℕ) (absolute : Bool) (period : ℤ) (dpc : ℕ) → refusal (SetTimer address due absolute period dpc) s ≡ 0
+    → step (SetTimer address due absolute period dpc) s .answer ≡ Flag (inTimerQueue s address)
+unfolding refusal effect timerSet
+set-timer-reports s address due absolute period dpc e =
+    ap (λ (o : Outcome). o .answer) (step-is (SetTimer address due absolute period dpc) s e)
+    ∙ go (timerAt (s .dispatcher .objects) address) (set-known s address period dpc e)
+  where
+    go : (o : Option Timer) → present o ≡ true
+        → given o (gives Done s) (λ (t : Timer). gives (Flag (t .inserted)) (withTable s (putObject (timer (armed t due absolute (periodOf period) dpc)) (s .dispatcher .objects)))) .answer
+        ≡ Flag (given o false (λ (t : Timer). t .inserted))
+    go none z = absurd (not-both (sym z))
+    go (some t) z = refl
+
+-- whether or not the timer's DPC is queued
+pub cancel-timer-reports : (s : State) (address : ℕ) → refusal (CancelTimer address) s ≡ 0 → step (CancelTimer address) s .answer ≡ Flag (inTimerQueue s address)
+unfolding refusal unknownTimer effect timerCancelled
+cancel-timer-reports s address e =
+    ap (λ (o : Outcome). o .answer) (step-is (CancelTimer address) s e)
+    ∙ go (timerAt (s .dispatcher .objects) address) (holds (present (timerAt (s .dispatcher .objects) address)) 1 0 e .0)
+  where
+    go : (o : Option Timer) → present o ≡ true
+        → given o (gives Done s) (λ (t : Timer). gives (Flag (t .inserted))
+        (withTable (withDpcs s (cond (cancelsWork s t) (withdrawn (s .dpcs) (t .dpc)) (s .dpcs))) (putObject (timer (cancelled t)) (s .dispatcher .objects)))) .answer
+        ≡ Flag (given o false (λ (t : Timer). t .inserted))
+    go none z = absurd (not-both (sym z))
+    go (some t) z = refl
+
+-- ---- KeInsertQueueDpc
+
+pub record InsertReports (before after : State) (address : ℕ) (answer : Answer) : Type 0 where
+  pub says : answer ≡ Flag (not (inDpcQueue before address))
+  pub queued : inDpcQueue after address ≡ true
+  -- it was queued already: nothing of it changes
+  pub unchanged : inDpcQueue before address ≡ true → (after .dpcs .table ≡ before .dpcs .table) × (after .dpcs .queue ≡ before .dpcs .queue)
+
+pub insert-dpc-reports : (s : State) → Valid s → (address first second : ℕ) → refusal (InsertQueueDpc address first second) s ≡ 0
+    → InsertReports s (step (InsertQueueDpc address first second) s .state) address (step (InsertQueueDpc address first second) s .answer)
+unfolding refusal effect dpcInserted
+insert-dpc-reports s v address first second e =
+    subst (λ (o : Outcome). InsertReports s (o .state) address (o .answer)) (sym (step-is (InsertQueueDpc address first second) s e))
+    (go (isQueued (phaseAt (s .dpcs .table) address)) (v .queueing .queued address))
+  where
+    go : (b : Bool) → inDpcQueue s address ≡ b → let o = cond b (gives (Flag false) (withDpcs s (duplicated (s .dpcs)))) (gives (Flag true) (withDpcs s (accepted (s .dpcs) address first second origin.Caller))) in
+        InsertReports s (o .state) address (o .answer)
+    go true q = unfold duplicated in (record { says = ap (λ (b : Bool). Flag (not b)) (sym q); queued = q; unchanged = λ z. (refl, refl) })
+    go false q = unfold accepted in (record { says = ap (λ (b : Bool). Flag (not b)) (sym q); queued = last-own address (s .dpcs .queue); unchanged = λ z. absurd (not-both (sym z ∙ q)) })
+
+-- ---- KeRemoveQueueDpc
+
+pub remove-dpc-reports : (s : State) → Valid s → (address : ℕ) → refusal (RemoveQueueDpc address) s ≡ 0
+    → (step (RemoveQueueDpc address) s .answer ≡ Flag (inDpcQueue s address)) × (inDpcQueue (step (RemoveQueueDpc address) s .state) address ≡ false)
+unfolding refusal effect dpcRemoved
+remove-dpc-reports s v address e =
+    subst (λ (o : Outcome). (o .answer ≡ Flag (inDpcQueue s address)) × (inDpcQueue (o .state) address ≡ false)) (sym (step-is (RemoveQueueDpc address) s e))
+    (go (isQueued (phaseAt (s .dpcs .table) address)) (v .queueing .queued address))
+  where
+    go : (b : Bool) → inDpcQueue s address ≡ b → let o = cond b (gives (Flag true) (withDpcs s (withdrawn (s .dpcs) address))) (gives (Flag false) s) in
+        (o .answer ≡ Flag (inDpcQueue s address)) × (inDpcQueue (o .state) address ≡ false)
+    go true q = unfold withdrawn in (ap Flag (sym q), out-own address (s .dpcs .queue))
+    go false q = (ap Flag (sym q), q)
+
+-- ---- KeWaitForMultipleObjects
+
+signaled-free : (o : Object) → isSignaled o ≡ isFree o
+signaled-free (mutex m) = refl
+signaled-free (event e) = refl
+signaled-free (timer t) = refl
+
+signaled-is : (s : State) (n : Named) → signaledNow s n ≡ isAvailable (s .dispatcher) n
+signaled-is s n = ap (λ (b : Bool). cond (eqb (n .kind) 3) (cond (isThread (s .dispatcher) (n .key)) (hasExited (statusOf (s .dispatcher) (n .key))) false) b) (go (namedIn (s .dispatcher .objects) n))
+  where
+    go : (o : Option Object) → given o false isSignaled ≡ given o false isFree
+    go none = refl
+    go (some x) = signaled-free x
+
+-- the first that is available
+first-available : (d : Dispatcher) (ns : List Named) → any (isAvailable d) ns ≡ true
+    → (nth ns (firstAvailable d ns) ≡ some (getD ns (firstAvailable d ns) noObject)) × (isAvailable d (getD ns (firstAvailable d ns) noObject) ≡ true)
+    × ((j : ℕ) (m : Named) → j < firstAvailable d ns → nth ns j ≡ some m → isAvailable d m ≡ false)
+first-available d [] e = absurd (not-both (sym e))
+first-available d (n ∷ ns) e = go (isAvailable d n) refl e (first-available d ns)
+  where
+    go : (b : Bool) → isAvailable d n ≡ b → cond b true (any (isAvailable d) ns) ≡ true
+        → (any (isAvailable d) ns ≡ true → (nth ns (firstAvailable d ns) ≡ some (getD ns (firstAvailable d ns) noObject)) × (isAvailable d (getD ns (firstAvailable d ns) noObject) ≡ true)
+        × ((j : ℕ) (m : Named) → j < firstAvailable d ns → nth ns j ≡ some m → isAvailable d m ≡ false))
+        → let i = cond b 0 (suc (firstAvailable d ns)) in
+        (nth (n ∷ ns) i ≡ some (getD (n ∷ ns) i noObject)) × (isAvailable d (getD (n ∷ ns) i noObject) ≡ true) × ((j : ℕ) (m : Named) → j < i → nth (n ∷ ns) j ≡ some m → isAvailable d m ≡ false)
+    go true q z ih = (refl, q, λ j m h f. absurd (omega arith))
+    go false q z ih = let r = ih z in (r .0, r .1, lower (r .2))
+      where
+        lower : ((j : ℕ) (m : Named) → j < firstAvailable d ns → nth ns j ≡ some m → isAvailable d m ≡ false) → (j : ℕ) (m : Named) → j < suc (firstAvailable d ns) → nth (n ∷ ns) j ≡ some m → isAvailable d m ≡ false
+        lower h zero m k f = ap (isAvailable d) (sym (some-same n m f)) ∙ q
+        lower h (suc j) m k f = h j m (omega arith) f
+
+every-available : (d : Dispatcher) (ns : List Named) → everyAvailable d ns ≡ true → (n : Named) → Mem n ns → isAvailable d n ≡ true
+every-available d [] e n m = absurd m
+every-available d (x ∷ xs) e n m = go (isAvailable d x) refl e m (every-available d xs)
+  where
+    go : (b : Bool) → isAvailable d x ≡ b → cond b (everyAvailable d xs) false ≡ true → (n ≡ x) ⊎ Mem n xs → (everyAvailable d xs ≡ true → (y : Named) → Mem y xs → isAvailable d y ≡ true) → isAvailable d n ≡ true
+    go true q z (inl p) ih = ap (isAvailable d) p ∙ q
+    go true q z (inr p) ih = ih z n p
+    go false q z p ih = absurd (not-both (sym z))
+
+-- ---- taking
+
+kind-found : (k : ℕ) (a : Option Object) (o : Object) → ofKind k a ≡ some o → (a ≡ some o) × (kindOf o ≡ k)
+kind-found k none o e = absurd (none-some o e)
+kind-found k (some x) o e = go (eqb (kindOf x) k) refl e
+  where
+    go : (b : Bool) → eqb (kindOf x) k ≡ b → cond b (some x) none ≡ some o → (some x ≡ some o) × (kindOf o ≡ k)
+    go true q z = (z, ap kindOf (sym (some-same x o z)) ∙ eqb-true (kindOf x) k q)
+    go false q z = absurd (none-some o z)
+
+taken-key : (id : ℕ) (o : Object) → keyOf (takenBy id o) ≡ keyOf o
+taken-key id (mutex m) = refl
+taken-key id (event e) = refl
+taken-key id (timer t) = refl
+
+taken-kind : (id : ℕ) (o : Object) → kindOf (takenBy id o) ≡ kindOf o
+taken-kind id (mutex m) = refl
+taken-kind id (event e) = refl
+taken-kind id (timer t) = refl
+
+module _ (id : ℕ) where
+  take-is : (l : List Object) (n : Named) (o : Object) → namedIn l n ≡ some o → take id l n ≡ putObject (takenBy id o) l
+  take-is l n o e = ap (λ (a : Option Object). given a l (λ x. putObject (takenBy id x) l)) e
+
+  take-own : (l : List Object) (n : Named) → TakenBy id l (take id l n) n
+  take-own l n o e =
+      let f = kind-found (n .kind) (objectAt l (n .key)) o e in
+      let k : n .key ≡ keyOf (takenBy id o) = sym (taken-key id o ∙ found keyOf l (n .key) o (f .0) .1) in
+      ap (λ (x : List Object). objectAt x (n .key)) (take-is l n o e) ∙ ap (objectAt (putObject (takenBy id o) l)) k ∙ find-put-own keyOf (takenBy id o) l
+
+  take-other : (l : List Object) (n : Named) (k : ℕ) → (k ≡ n .key → ⊥) → objectAt (take id l n) k ≡ objectAt l k
+  take-other l n k h = go (namedIn l n) refl
+    where
+      go : (a : Option Object) → namedIn l n ≡ a → objectAt (given a l (λ x. putObject (takenBy id x) l)) k ≡ objectAt l k
+      go none e = refl
+      go (some o) e = find-put-other keyOf (takenBy id o) l k (λ z. h (z ∙ taken-key id o ∙ found keyOf l (n .key) o (kind-found (n .kind) (objectAt l (n .key)) o e .0) .1))
+
+  -- one of another kind at the key: nothing is taken
+  take-nothing : (l : List Object) (n : Named) (o : Object) → objectAt l (n .key) ≡ some o → (kindOf o ≡ n .kind → ⊥) → take id l n ≡ l
+  take-nothing l n o f h = ap (λ (a : Option Object). given a l (λ x. putObject (takenBy id x) l)) (ap (ofKind (n .kind)) f ∙ ap (λ (b : Bool). cond b (some o) none) (ne-eqb (kindOf o) (n .kind) h))
+
+  every-other : (l : List Object) (ns : List Named) (k : ℕ) → ((n : Named) → Mem n ns → k ≡ n .key → ⊥) → objectAt (takeEvery id l ns) k ≡ objectAt l k
+  every-other l [] k h = refl
+  every-other l (n ∷ ns) k h = every-other (take id l n) ns k (λ m a. h m (inr a)) ∙ take-other l n k (h n (inl refl))
+
+  stays : (l : List Object) (ns : List Named) (k : ℕ) (p : Object) → objectAt l k ≡ some p → ((m : Named) → Mem m ns → m .key ≡ k → m .kind ≡ kindOf p → ⊥) → objectAt (takeEvery id l ns) k ≡ some p
+  stays l [] k p f h = f
+  stays l (n ∷ ns) k p f h = stays (take id l n) ns k p (elim (ℕ-discrete k (n .key)) [
+    | yes e ↦ ap (λ (x : List Object). objectAt x k) (take-nothing l n p (ap (objectAt l) (sym e) ∙ f) (λ z. h n (inl refl) (sym e) (sym z))) ∙ f
+    | no q ↦ take-other l n k q ∙ f
+  ]) (λ m a. h m (inr a))
+
+  every-taken : (l : List Object) (ns : List Named) → hasDuplicate ns ≡ false → (n : Named) → Mem n ns → TakenBy id l (takeEvery id l ns) n
+  every-taken l [] e n m o f = absurd m
+  every-taken l (x ∷ xs) e n m o f = go m (every-taken (take id l x) xs (d .1) n)
+    where
+      d : (listed x xs ≡ false) × (hasDuplicate xs ≡ false)
+      d = neither (listed x xs) (hasDuplicate xs) e
+
+      -- another of the same kind and key would be listed twice
+      differs : (y : Named) → Mem y xs → y .key ≡ x .key → y .kind ≡ x .kind → ⊥
+      differs y a p q = not-both (sym (same-named y x q p) ∙ any-false (λ z. sameNamed z x) xs (d .0) y a)
+
+      go : (n ≡ x) ⊎ Mem n xs → (Mem n xs → TakenBy id (take id l x) (takeEvery id (take id l x) xs) n) → objectAt (takeEvery id (take id l x) xs) (n .key) ≡ some (takenBy id o)
+      go (inl p) ih =
+          let g : namedIn l x ≡ some o = ap (namedIn l) (sym p) ∙ f in
+          let k = kind-found (x .kind) (objectAt l (x .key)) o g in
+          ap (λ (y : Named). objectAt (takeEvery id (take id l x) xs) (y .key)) p
+          ∙ stays (take id l x) xs (x .key) (takenBy id o) (take-own l x o g) (λ y a q z. differs y a q (z ∙ taken-kind id o ∙ k .1))
+      go (inr p) ih =
+          let k = kind-found (n .kind) (objectAt l (n .key)) o f in
+          ih p o (elim (ℕ-discrete (n .key) (x .key)) [
+            | yes q ↦ ap (λ (y : List Object). namedIn y n) (take-nothing l x o (ap (objectAt l) (sym q) ∙ k .0) (λ z. differs n p q (sym (k .1) ∙ z))) ∙ f
+            | no q ↦ ap (ofKind (n .kind)) (take-other l x (n .key) q) ∙ f
+          ])
+
+-- ---- the call
+
+module _ (s : State) (l : List ℕ) (all : Bool) (deadline : Option ℕ) (irql : ℕ) (e : refusal (Wait l all deadline irql) s ≡ 0) where
+  abbrev d₀ : Dispatcher
+  d₀ = s .dispatcher
+
+  -- an accepted wait is granted, timed out or blocked
+  wait-is : step (Wait l all deadline irql) s ≡ waited s (pairs l) all deadline
+  unfolding effect
+  wait-is = step-is (Wait l all deadline irql) s e
+
+  no-duplicate : hasDuplicate (pairs l) ≡ false
+  unfolding refusal waitRefusal badList
+  no-duplicate =
+      let a = passes (eqb (d₀ .current) 0) 2 _ e in
+      let b = passes (badList l) 6 _ (a .1) in
+      let c = neither (isEmpty (pairs l)) _ (b .0) in
+      let g = neither (ltb 64 (length (pairs l))) _ (c .1) in
+      neither (hasDuplicate (pairs l)) _ (g .1) .0
+
+  met-is : isMet d₀ (pairs l) all ≡ true → step (Wait l all deadline irql) s ≡ granted s (pairs l) all
+  unfolding waited
+  met-is m = wait-is ∙ ap (λ (b : Bool). cond b (granted s (pairs l) all) (cond (reached deadline (s .now)) (timedOut s) (blocks s (pairs l) all deadline))) m
+
+  -- nothing satisfies it, and a zero or reached timeout: timeout, and nothing is taken
+  pub wait-times-out : isMet d₀ (pairs l) all ≡ false → reached deadline (s .now) ≡ true
+      → (step (Wait l all deadline irql) s .answer ≡ Timeout) × (step (Wait l all deadline irql) s .state .dispatcher .objects ≡ d₀ .objects)
+  unfolding waited timedOut
+  wait-times-out m r =
+      let z : step (Wait l all deadline irql) s ≡ timedOut s = wait-is ∙ ap (λ (b : Bool). cond b (granted s (pairs l) all) (cond (reached deadline (s .now)) (timedOut s) (blocks s (pairs l) all deadline))) m
+      ∙ ap (λ (b : Bool). cond b (timedOut s) (blocks s (pairs l) all deadline)) r in
+      (ap (λ (o : Outcome). o .answer) z, ap (λ (o : Outcome). o .state .dispatcher .objects) z)
+
+  -- nothing satisfies it, and no timeout is reached: the thread blocks, and nothing is taken
+  pub wait-blocks : isMet d₀ (pairs l) all ≡ false → reached deadline (s .now) ≡ false
+      → (step (Wait l all deadline irql) s .answer ≡ Blocked) × (step (Wait l all deadline irql) s .state .dispatcher .objects ≡ d₀ .objects)
+  unfolding waited blocks blocked becomes
+  wait-blocks m r =
+      let z : step (Wait l all deadline irql) s ≡ blocks s (pairs l) all deadline = wait-is ∙ ap (λ (b : Bool). cond b (granted s (pairs l) all) (cond (reached deadline (s .now)) (timedOut s) (blocks s (pairs l) all deadline))) m
+      ∙ ap (λ (b : Bool). cond b (timedOut s) (blocks s (pairs l) all deadline)) r in
+      (ap (λ (o : Outcome). o .answer) z, ap (λ (o : Outcome). o .state .dispatcher .objects) z)
+
+-- WaitAny: some object is signaled
+pub wait-any-reports : (s : State) (l : List ℕ) (deadline : Option ℕ) (irql : ℕ) → refusal (Wait l false deadline irql) s ≡ 0 → (m : Named) → Mem m (pairs l) → signaledNow s m ≡ true
+    → (i : ℕ) × (step (Wait l false deadline irql) s .answer ≡ Satisfied i) × WaitAny s (step (Wait l false deadline irql) s .state) (s .dispatcher .current) (pairs l) i
+unfolding granted
+wait-any-reports s l deadline irql e m a t =
+    let d = s .dispatcher in
+    let ns = pairs l in
+    let z : any (isAvailable d) ns ≡ true = any-at (isAvailable d) m ns a (sym (signaled-is s m) ∙ t) in
+    let f = first-available d ns z in
+    let n = getD ns (firstAvailable d ns) noObject in (
+      firstAvailable d ns,
+      ap (λ (o : Outcome). o .answer) (met-is s l false deadline irql e z),
+      subst (λ (o : Outcome). WaitAny s (o .state) (d .current) ns (firstAvailable d ns)) (sym (met-is s l false deadline irql e z))
+          (record {
+            which = n;
+            lowest = record { at = f .0; signaled = signaled-is s n ∙ f .1; lowest = λ j y h q. signaled-is s y ∙ f .2 j y h q };
+            taken = take-own (d .current) (d .objects) n;
+            alone = λ k h. take-other (d .current) (d .objects) n k h;
+          }),
+    )
+
+-- WaitAll: every object is signaled
+pub wait-all-reports : (s : State) (l : List ℕ) (deadline : Option ℕ) (irql : ℕ) → refusal (Wait l true deadline irql) s ≡ 0 → ((n : Named) → Mem n (pairs l) → signaledNow s n ≡ true)
+    → (step (Wait l true deadline irql) s .answer ≡ Satisfied 0) × WaitAll s (step (Wait l true deadline irql) s .state) (s .dispatcher .current) (pairs l)
+unfolding granted
+wait-all-reports s l deadline irql e h =
+    let d = s .dispatcher in
+    let ns = pairs l in
+    let z : everyAvailable d ns ≡ true = every ns (λ n m. sym (signaled-is s n) ∙ h n m) in (
+      ap (λ (o : Outcome). o .answer) (met-is s l true deadline irql e z),
+      subst (λ (o : Outcome). WaitAll s (o .state) (d .current) ns) (sym (met-is s l true deadline irql e z))
+          (record {
+            every = h;
+            taken = λ n m. every-taken (d .current) (d .objects) ns (no-duplicate s l true deadline irql e) n m;
+            others = λ k q. every-other (d .current) (d .objects) ns k q;
+          }),
+    )
+  where
+    every : (ns : List Named) → ((n : Named) → Mem n ns → isAvailable (s .dispatcher) n ≡ true) → everyAvailable (s .dispatcher) ns ≡ true
+    every [] k = refl
+    every (n ∷ ns) k = ap (λ (b : Bool). cond b (everyAvailable (s .dispatcher) ns) false) (k n (inl refl)) ∙ every ns (λ x m. k x (inr m))

@@ -1,0 +1,64 @@
+-- What Microsoft's pages say that the kernel's routines report, of a state before the call and one after it.
+use Prim.Native.Nat.{ℕ, _<_}
+use mathlib.Core.List.{List}
+use mathlib.Core.Bool.{Bool, true, false, cond}
+use mathlib.Core.Option.{some}
+use mathlib.Core.Path.{_≡_}
+use lib.Dec.{eqb}
+use Rattle.images.specs.declared.Timer.{Timer}
+use Rattle.model.specs.Lists.{Mem, member, nth, given}
+use Rattle.model.specs.State.{State, Named, Event, Object, mutex, event, timer}
+use Rattle.model.specs.Threads.{isThread, hasExited, statusOf}
+use Rattle.model.specs.Waits.{objectAt, eventAt, timerAt, namedIn, takenBy}
+
+-- KeSetEvent: whether the event was signaled before
+abbrev pub wasSignaled : State → ℕ → Bool
+wasSignaled s key = given (eventAt (s .dispatcher .objects) key) false (λ (e : Event). e .signaled)
+
+-- KeSetTimerEx, KeSetTimer: TRUE if the timer was in the timer queue already.
+-- KeCancelTimer: TRUE if the timer was in the timer queue.
+abbrev pub inTimerQueue : State → ℕ → Bool
+inTimerQueue s address = given (timerAt (s .dispatcher .objects) address) false (λ (t : Timer). t .inserted)
+
+-- KeInsertQueueDpc: TRUE if the DPC was not in a queue and now is; FALSE if it was queued already, and then nothing of it changes.
+-- KeRemoveQueueDpc: TRUE if it was in the queue.
+abbrev pub inDpcQueue : State → ℕ → Bool
+inDpcQueue s address = member address (s .dpcs .queue)
+
+-- ---- KeWaitForMultipleObjects
+
+-- the object is in the signaled state: a mutex that nobody owns, an event or a timer that is signaled, a thread that has ended
+abbrev pub isSignaled : Object → Bool
+isSignaled (mutex m) = eqb (m .owner) 0
+isSignaled (event e) = e .signaled
+isSignaled (timer t) = t .signaled
+
+-- the listed object is in the signaled state
+abbrev pub signaledNow : State → Named → Bool
+signaledNow s n =
+    cond (eqb (n .kind) 3)
+    (cond (isThread (s .dispatcher) (n .key)) (hasExited (statusOf (s .dispatcher) (n .key))) false)
+    (given (namedIn (s .dispatcher .objects) n) false isSignaled)
+
+-- the object at position `i` is signaled and none before it is
+pub record LowestSignaled (s : State) (ns : List Named) (i : ℕ) (n : Named) : Type 0 where
+  pub at : nth ns i ≡ some n
+  pub signaled : signaledNow s n ≡ true
+  pub lowest : (j : ℕ) (m : Named) → j < i → nth ns j ≡ some m → signaledNow s m ≡ false
+
+-- the thread has taken the object: it owns the mutex, and what is not manual is signaled no more; a thread that ended stays so
+abbrev pub TakenBy : ℕ → List Object → List Object → Named → Type 0
+TakenBy id before after n = (o : Object) → namedIn before n ≡ some o → objectAt after (n .key) ≡ some (takenBy id o)
+
+-- "WaitAny: the lowest index among the objects that are signaled, which alone is taken"
+pub record WaitAny (before after : State) (id : ℕ) (ns : List Named) (i : ℕ) : Type 0 where
+  pub which : Named
+  pub lowest : LowestSignaled before ns i which
+  pub taken : TakenBy id (before .dispatcher .objects) (after .dispatcher .objects) which
+  pub alone : (k : ℕ) → (k ≡ which .key → ⊥) → objectAt (after .dispatcher .objects) k ≡ objectAt (before .dispatcher .objects) k
+
+-- "WaitAll: success once every one is, all taken together"
+pub record WaitAll (before after : State) (id : ℕ) (ns : List Named) : Type 0 where
+  pub every : (n : Named) → Mem n ns → signaledNow before n ≡ true
+  pub taken : (n : Named) → Mem n ns → TakenBy id (before .dispatcher .objects) (after .dispatcher .objects) n
+  pub others : (k : ℕ) → ((n : Named) → Mem n ns → k ≡ n .key → ⊥) → objectAt (after .dispatcher .objects) k ≡ objectAt (before .dispatcher .objects) k
