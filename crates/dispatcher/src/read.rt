@@ -19,7 +19,9 @@ pub struct ThreadView {
     pub count: u64,
 }
 
+// The reads here refuse nothing; those that first check the form of the words do.
 pub enum ThreadAnswer {
+    Refused(u64),
     Thread(ThreadView),
     None,
 }
@@ -30,6 +32,7 @@ pub struct Place {
 }
 
 pub enum PlaceAnswer {
+    Refused(u64),
     Object(Place),
     None,
 }

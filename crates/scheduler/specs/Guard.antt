@@ -1,19 +1,69 @@
 -- 27 before all else: words out of form are refused, and left as they are.
-use mathlib.Core.Bool.{cond}
+use mathlib.Core.Bool.{Bool, cond, true}
 use mathlib.Core.List.{List}
 use Prim.Native.Nat.{ℕ}
+use lib.Dec.{ltb}
+use lib.ListN.{length}
 use Rattle.answers.specs.declared.Answer.{Answer}
 use Rattle.answers.specs.declared.Answer.the-variants.{Refused}
 use Rattle.answers.specs.Outcome.{Outcome, outcome}
 use Rattle.dispatcher.specs.Dispatch.{Dispatched, told}
 use Rattle.dispatcher.specs.Dispatched.{dispatched}
+use Rattle.dispatcher.specs.declared.read.ThreadAnswer.{ThreadAnswer}
+use Rattle.dispatcher.specs.declared.read.ThreadAnswer.the-variants as thread
+use Rattle.dispatcher.specs.declared.read.PlaceAnswer.{PlaceAnswer}
+use Rattle.dispatcher.specs.declared.read.PlaceAnswer.the-variants as place
+use Rattle.dpc.specs.Calls.{Started, startOutcome}
+use Rattle.dpc.specs.declared.calls.WorkAnswer.the-variants as work
+use Rattle.dpc.specs.declared.reads.DpcAnswer.{DpcAnswer}
+use Rattle.dpc.specs.declared.reads.DpcAnswer.the-variants as dpc
+use Rattle.dpc.specs.declared.reads.PolicyAnswer.{PolicyAnswer}
+use Rattle.dpc.specs.declared.reads.PolicyAnswer.the-variants as policy
+use Rattle.dpc.specs.declared.reads.CountersAnswer.{CountersAnswer}
+use Rattle.dpc.specs.declared.reads.CountersAnswer.the-variants as counters
+use Rattle.timers.specs.declared.TimerAnswer.{TimerAnswer}
+use Rattle.timers.specs.declared.TimerAnswer.the-variants as timer
 use Rattle.form.specs.Form.{inForm}
+use Rattle.scheduler.specs.Images.{Imaged, imaged}
+
+-- ---- calls that change the words
 
 unfoldable pub guarded : List ℕ → Outcome → Outcome
 guarded w o = cond (inForm w) o (outcome (Refused 27) w)
 
+unfoldable pub guardedDispatch : List ℕ → List ℕ → Dispatched
+guardedDispatch w out = cond (inForm w) (dispatched w out) (told (Refused 27) w out)
+
+unfoldable pub guardedStart : List ℕ → Started → Started
+guardedStart w s = cond (inForm w) s (startOutcome (work.Refused 27) w)
+
+-- ---- reads, by the type of their answer
+
 unfoldable pub readable : List ℕ → Answer → Answer
 readable w a = cond (inForm w) a (Refused 27)
 
-unfoldable pub guardedDispatch : List ℕ → List ℕ → Dispatched
-guardedDispatch w out = cond (inForm w) (dispatched w out) (told (Refused 27) w out)
+unfoldable pub timerReadable : List ℕ → TimerAnswer → TimerAnswer
+timerReadable w a = cond (inForm w) a (timer.Refused 27)
+
+unfoldable pub dpcReadable : List ℕ → DpcAnswer → DpcAnswer
+dpcReadable w a = cond (inForm w) a (dpc.Refused 27)
+
+unfoldable pub policyReadable : List ℕ → PolicyAnswer → PolicyAnswer
+policyReadable w a = cond (inForm w) a (policy.Refused 27)
+
+unfoldable pub countersReadable : List ℕ → CountersAnswer → CountersAnswer
+countersReadable w a = cond (inForm w) a (counters.Refused 27)
+
+unfoldable pub threadReadable : List ℕ → ThreadAnswer → ThreadAnswer
+threadReadable w a = cond (inForm w) a (thread.Refused 27)
+
+unfoldable pub placeReadable : List ℕ → PlaceAnswer → PlaceAnswer
+placeReadable w a = cond (inForm w) a (place.Refused 27)
+
+-- ---- images: an output under 64 bytes is refused as well, and left as it is
+
+unfoldable pub imageRefused : List ℕ → List ℕ → Bool
+imageRefused w out = cond (inForm w) (ltb (length out) 64) true
+
+unfoldable pub guardedImage : List ℕ → List ℕ → Imaged → Imaged
+guardedImage w out i = cond (imageRefused w out) (imaged (Refused 27) out) i

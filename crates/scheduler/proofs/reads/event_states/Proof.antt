@@ -4,7 +4,6 @@ use Rattle.scheduler.specs.Guard.{readable}
 use borrow.Author.Needs.{needs}
 use Rattle.scheduler.proofs.reads.event_states.Statement.{statement}
 use Rattle.scheduler.proofs.reads.event_states.Tie as tie
-use Rattle.scheduler.proofs.reads.event_states.Reads as reads
 
 in-form-requires : tie.Need-in-form-requires
 in-form-requires c κs = search needs

@@ -1,0 +1,24 @@
+use mathlib.Core.Path.{_∙_, sym}
+use borrow.Author.Tests.{not-true, not-false}
+use Rattle.scheduler.specs.Guard.{readable}
+use borrow.Author.Needs.{needs}
+use Rattle.scheduler.proofs.timer_calls.timer_initializations.Statement.{statement}
+use Rattle.scheduler.proofs.timer_calls.timer_initializations.Tie as tie
+
+in-form-requires : tie.Need-in-form-requires
+in-form-requires c κs = search needs
+
+returns : tie.Need-returns
+unfolding readable
+returns c = simp (sym (c .before .in-form .ensures) ∙ not-true _ (c .if1 .taken))
+
+timer-initializations-requires : tie.Need-timer-initializations-requires
+timer-initializations-requires c κs = search needs
+
+returns-2 : tie.Need-returns-2
+unfolding readable
+returns-2 c = simp (sym (c .before .before .in-form .ensures) ∙ not-false _ (c .before .if1 .left)) (cc)
+
+pub timer-initializations-spec : {M : Type 1} → statement M
+timer-initializations-spec =
+    tie.close (tie.spec in-form-requires returns timer-initializations-requires returns-2)
