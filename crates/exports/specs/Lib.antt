@@ -1,2 +1,4 @@
 pub mod ClockWords
 pub mod SchedulerAnswer
+pub mod RecordAnswer
+pub mod RecordCall

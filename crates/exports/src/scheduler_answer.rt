@@ -5,7 +5,7 @@ ghost use Rattle.answers.specs.Outcome.{bit};
 use answers::Answer;
 
 // Answers 0, which no refusal is.
-fn tag(out: &mut [u64], t: u64) -> u64
+pub fn tag(out: &mut [u64], t: u64) -> u64
     ensures { λ r. ⌜ (r ≡ 0) × (now (out .exit) ≡ tagged (now (out .entry)) t) ⌝ }
 {
     words::put(out, 0, t);
@@ -20,7 +20,7 @@ fn value(out: &mut [u64], t: u64, v: u64) -> u64
     0
 }
 
-fn flag(b: bool) -> u64
+pub fn flag(b: bool) -> u64
     ensures { λ r. ⌜ r ≡ bit b ⌝ }
 {
     if b { 1 } else { 0 }

@@ -1,0 +1,29 @@
+use mathlib.Core.Path.{_∙_}
+use denote.Ref.{now}
+use Rattle.exports.specs.SchedulerAnswer.{given}
+use Rattle.exports.proofs.AnswerLaws.{read-short, read-by}
+use borrow.Author.Needs.{needs}
+use Rattle.exports.proofs.timer_calls.scheduler_require_timer_release.Statement.{statement}
+use Rattle.exports.proofs.timer_calls.scheduler_require_timer_release.Tie as tie
+
+returns : tie.Need-returns
+returns c = read-short (now (c .before .before .before .args .words)) (now (c .before .before .before .args .out)) _ (c .if1 .taken)
+
+require-timer-release-requires : tie.Need-require-timer-release-requires
+require-timer-release-requires c κs = search needs
+
+put-answer-requires : tie.Need-put-answer-requires
+put-answer-requires c κs = search needs
+
+same-length : tie.Need-same-length
+same-length c = search needs
+
+returns-2 : tie.Need-returns-2
+returns-2 c =
+    (λ i. given ((c .before .before .put-answer .ensures .0) i) (now (c .before .before .before .before .before .before .before .before .args .words)) ((c .before .before .put-answer .ensures .1) i))
+    ∙ read-by (now (c .before .before .before .before .before .before .before .before .args .words)) (now (c .before .before .before .before .before .before .before .before .args .out)) (c .before .before .before .before .require-timer-release .result) _ (c .before .before .before .before .before .if1 .left) (c .before .before .before .before .require-timer-release .ensures)
+
+pub scheduler-require-timer-release-spec : {M : Type 1} → statement M
+scheduler-require-timer-release-spec =
+    tie.close
+    (tie.spec returns require-timer-release-requires put-answer-requires same-length returns-2)

@@ -1,0 +1,33 @@
+use mathlib.Core.Path.{_∙_}
+use denote.Ref.{now}
+use Rattle.exports.specs.SchedulerAnswer.{given}
+use Rattle.exports.proofs.AnswerLaws.{read-short, read-by}
+use borrow.Author.Needs.{needs}
+use Rattle.exports.proofs.timer_calls.scheduler_timer_metadata_overlap.Statement.{
+  statement,
+}
+use Rattle.exports.proofs.timer_calls.scheduler_timer_metadata_overlap.Tie as tie
+use Rattle.exports.proofs.timer_calls.scheduler_timer_metadata_overlap.Reads as reads
+use Rattle.exports.proofs.timer_calls.scheduler_timer_metadata_overlap.Lts as lts
+
+returns : tie.Need-returns
+returns c = read-short (now (c .before .before .before .args .words)) (now (c .before .before .before .args .out)) _ (c .if1 .taken)
+
+timer-metadata-overlap-requires : tie.Need-timer-metadata-overlap-requires
+timer-metadata-overlap-requires c κs = search needs
+
+put-answer-requires : tie.Need-put-answer-requires
+put-answer-requires c κs = search needs
+
+same-length : tie.Need-same-length
+same-length c = search needs
+
+returns-2 : tie.Need-returns-2
+returns-2 c =
+    (λ i. given ((c .before .before .put-answer .ensures .0) i) (now (c .before .before .before .before .before .before .before .before .args .words)) ((c .before .before .put-answer .ensures .1) i))
+    ∙ read-by (now (c .before .before .before .before .before .before .before .before .args .words)) (now (c .before .before .before .before .before .before .before .before .args .out)) (c .before .before .before .before .timer-metadata-overlap .result) _ (c .before .before .before .before .before .if1 .left) (c .before .before .before .before .timer-metadata-overlap .ensures)
+
+pub scheduler-timer-metadata-overlap-spec : {M : Type 1} → statement M
+scheduler-timer-metadata-overlap-spec =
+    tie.close
+    (tie.spec returns timer-metadata-overlap-requires put-answer-requires same-length returns-2)
