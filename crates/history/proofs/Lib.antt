@@ -1,0 +1,16 @@
+pub mod Rows
+pub mod Places
+pub mod Frames
+pub mod Writers
+pub mod Headers
+pub mod Threads
+pub mod Waits
+pub mod Tables
+pub mod Opened
+pub mod Records
+pub mod Lookups
+pub mod Objects
+pub mod Dpcs
+pub mod Chains
+pub mod Queue
+pub mod Ready

@@ -1,0 +1,83 @@
+-- A thread that becomes ready, with the result of its wait: its record, then its place. Yielding, waking and timing out end so.
+use Prim.Native.Nat.{ℕ, zero, suc, _+_, _-_, _*_, _≤_, _<_}
+use mathlib.Core.List.{List, [], _∷_, _++_}
+use mathlib.Core.Option.{Option, none, some}
+use mathlib.Core.Path.{_≡_, refl, sym, ap, _∙_, subst}
+use native.Mathlib.Omega.{arith}
+use borrow.Author.Tests.{eq-eqb}
+use lib.Dec.{eqb}
+use lib.ListN.{set, length}
+use mathlib.Core.Bool.{Bool, cond}
+use Rattle.threads.specs.declared.Thread as stored
+use Rattle.threads.specs.Thread as words
+use Rattle.chains.specs.Ready.{placedLast}
+use Rattle.waits.specs.Wake.{madeReady}
+use Rattle.kernel.specs.Thread.{yieldedWords}
+use Rattle.model.specs.Lists.{Mem, without}
+use Rattle.model.specs.State.{State, Dispatcher, Thread, Status, running, ready, WaitResult}
+use Rattle.model.specs.Threads.{threadAt, threadOf, statusOf, priorityOf, changeAt, withThread, withStatus, becomes, yielded}
+use Rattle.model.specs.Step.{withDispatcher}
+use Rattle.model.proofs.ListLaws.{without-absent}
+use Rattle.model.proofs.ThreadLaws.{length-change, change-own}
+use Rattle.history.specs.Records.{resultNumber, exitStatus, statusNumber}
+use Rattle.history.specs.Agree.{Agreeing}
+use Rattle.history.proofs.Headers.{withCurrent, sim-current}
+use Rattle.history.proofs.Threads.{storedOf, sim-thread}
+use Rattle.history.proofs.Lookups.{thread-is}
+use Rattle.history.proofs.Chains.{withPlaced, sim-place}
+
+-- the thread in the log
+abbrev pub readyThread : Dispatcher → ℕ → Option WaitResult → Thread
+readyThread d id r = record { priority = priorityOf d id; status = ready; result = r }
+
+module _ (w : List ℕ) (s : State) (holder : ℕ → ℕ) (active : ℕ) (a : Agreeing w s holder active) where
+  pub sim-ready : (id : ℕ) (r : Option WaitResult) → 1 ≤ id → id ≤ length (s .dispatcher .threads) → exitStatus (statusOf (s .dispatcher) id) ≡ 0 → (Mem id (s .dispatcher .placed) → ⊥)
+      → Agreeing (madeReady w id (resultNumber r))
+        (withDispatcher s (withPlaced (withThread (s .dispatcher) id (readyThread (s .dispatcher) id r)) (s .dispatcher .placed ++ (id ∷ [])))) holder active
+  unfolding madeReady
+  sim-ready id r one le live absent =
+      subst (λ (x : stored.Thread). Agreeing (placedLast (words.putThread w id (record { priority = x .priority; state = 2; result = resultNumber r; status = x .status })) (x .priority) id) after holder active)
+      (sym (thread-is w s holder active a id one le))
+      (subst (λ (v : ℕ). Agreeing (placedLast (words.putThread w id (record { priority = priorityOf (s .dispatcher) id; state = 2; result = resultNumber r; status = v })) (priorityOf (s .dispatcher) id) id) after holder active)
+      (sym live)
+      (subst (λ (p : ℕ). Agreeing (placedLast (words.putThread w id (storedOf t)) p id) after holder active) (ap (λ (x : Thread). x .priority) (change-own (s .dispatcher .threads) id t one le))
+      (sim-place (words.putThread w id (storedOf t)) s₁ holder active b id one (subst (λ (m : ℕ). id ≤ m) (sym (length-change (s .dispatcher .threads) id t)) le) absent)))
+    where
+      t : Thread
+      t = readyThread (s .dispatcher) id r
+
+      s₁ : State
+      s₁ = withDispatcher s (withThread (s .dispatcher) id t)
+
+      after : State
+      after = withDispatcher s (withPlaced (withThread (s .dispatcher) id (readyThread (s .dispatcher) id r)) (s .dispatcher .placed ++ (id ∷ [])))
+
+      b : Agreeing (words.putThread w id (storedOf t)) s₁ holder active
+      b = sim-thread w s holder active a id t one le
+          (record { one = a .shape .fit id one le .one; small = a .shape .fit id one le .small; wait = tt }) (λ m. refl) tt
+
+  -- `yield_current`, where the current thread runs and stands in no list
+  pub agree-yield : 1 ≤ s .dispatcher .current → s .dispatcher .current ≤ length (s .dispatcher .threads) → statusOf (s .dispatcher) (s .dispatcher .current) ≡ running
+      → (Mem (s .dispatcher .current) (s .dispatcher .placed) → ⊥) → (Mem (s .dispatcher .current) (s .dispatcher .waiters) → ⊥)
+      → Agreeing (yieldedWords w (s .dispatcher .current)) (withDispatcher s (yielded (s .dispatcher))) holder active
+  unfolding yieldedWords yielded becomes
+  agree-yield one le runs unplaced unblocked =
+      subst (λ (x : stored.Thread). Agreeing (madeReady (set w 6 0) id (x .result)) (withDispatcher s (yielded (s .dispatcher))) holder active) (sym (thread-is w s holder active a id one le))
+      (subst (λ (d : Dispatcher). Agreeing (madeReady (set w 6 0) id (resultNumber (threadOf (s .dispatcher) id .result))) (withDispatcher s d) holder active) (sym same)
+      (sim-ready′ id (threadOf (s .dispatcher) id .result) one le (ap exitStatus runs) unplaced))
+    where
+      id : ℕ
+      id = s .dispatcher .current
+
+      s₁ : State
+      s₁ = withDispatcher s (withCurrent (s .dispatcher) 0)
+
+      sim-ready′ : (id : ℕ) (r : Option WaitResult) → 1 ≤ id → id ≤ length (s .dispatcher .threads) → exitStatus (statusOf (s .dispatcher) id) ≡ 0 → (Mem id (s .dispatcher .placed) → ⊥)
+          → Agreeing (madeReady (set w 6 0) id (resultNumber r))
+            (withDispatcher s₁ (withPlaced (withThread (s₁ .dispatcher) id (readyThread (s₁ .dispatcher) id r)) (s₁ .dispatcher .placed ++ (id ∷ [])))) holder active
+      sim-ready′ = ?
+
+      same : yielded (s .dispatcher)
+          ≡ withPlaced (withThread (withCurrent (s .dispatcher) 0) (s .dispatcher .current) (readyThread (s .dispatcher) (s .dispatcher .current) (threadOf (s .dispatcher) (s .dispatcher .current) .result)))
+            (s .dispatcher .placed ++ (s .dispatcher .current ∷ []))
+      same = ?

@@ -1,0 +1,5 @@
+pub mod Row
+pub mod Records
+pub mod Chains
+pub mod Shape
+pub mod Agree

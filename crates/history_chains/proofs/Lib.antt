@@ -1,0 +1,13 @@
+pub mod Links
+pub mod Frames
+pub mod ChainLaws
+pub mod Walks
+pub mod Renumbers
+pub mod Places
+pub mod Marks
+pub mod ReadyLaws
+pub mod Placed
+pub mod Top
+pub mod Raised
+pub mod Renewed
+pub mod Numbered

@@ -1,0 +1,13 @@
+pub mod Lists
+pub mod Search
+pub mod Lookups
+pub mod Numbers
+pub mod Moves
+pub mod Holds
+pub mod Compacts
+pub mod Retired
+pub mod Objects
+pub mod Links
+pub mod Dpcs
+pub mod Renewals
+pub mod CloseUp
