@@ -1,20 +1,17 @@
 -- A thread put into a ready queue or the waiters' chain and taken out, a DPC put into the queue and taken out: on the words and in the log.
-use Prim.Native.Nat.{ℕ, zero, suc, _+_, _-_, _*_, _≤_, _<_}
-use mathlib.Core.List.{List, [], _∷_, _++_, map}
-use mathlib.Core.Bool.{Bool, true, false, cond, not}
-use mathlib.Core.Option.{Option, none, some}
-use mathlib.Core.Logic.{_⊎_, inl, inr}
-use mathlib.Core.Path.{_≡_, refl, sym, ap, _∙_, subst}
+use Prim.Native.Nat.{ℕ, _+_, _-_, _*_, _≤_}
+use mathlib.Core.List.{List, [], _∷_, _++_}
+use mathlib.Core.Logic.{inl, inr}
+use mathlib.Core.Path.{_≡_, refl, sym, subst}
 use native.Mathlib.Omega.{arith}
-use lib.ListN.{getD, set, length}
-use Rattle.chains.specs.declared.Chain.{Chain}
+use lib.ListN.{length}
 use Rattle.chains.specs.Chain.{pushed, removed, unlinked}
 use Rattle.chains.specs.Ready.{waitersChain, placedLast, unplaced}
 use Rattle.model.specs.Lists.{Mem, without}
-use Rattle.model.specs.State.{State, Dispatcher, Thread}
+use Rattle.model.specs.State.{State, Dispatcher}
 use Rattle.model.specs.Threads.{threadAt}
 use Rattle.model.specs.Step.{withDispatcher}
-use Rattle.history_chains.specs.Chains.{Holds, Standing, Same, Own, Places}
+use Rattle.history_chains.specs.Chains.{Holds, Standing, Same, Places}
 use Rattle.history_chains.specs.Ready.{ReadyQueues, ReadyPlace, Room}
 use Rattle.history_chains.proofs.Links.{priorTo, prior-mem}
 use Rattle.history_chains.proofs.Frames.{own-place, pushed-outside, unlinked-outside, length-pushed, length-removed, length-unlinked}
@@ -22,10 +19,9 @@ use Rattle.history_chains.proofs.ChainLaws.{standing-last, standing-out, holds-
 use Rattle.history_chains.proofs.Places.{waiters-apart}
 use Rattle.history_chains.proofs.Marks.{length-placed, length-unplaced}
 use Rattle.history_chains.proofs.Placed.{placed-last, placed-frame, taken-out, taken-frame}
-use Rattle.history.specs.Chains.{queuesOf, queueFrom}
-use Rattle.history.specs.Shape.{Shape}
+use Rattle.history.specs.Chains.{queuesOf}
 use Rattle.history.specs.Agree.{objectsFrom, dpcsFrom, Agreeing}
-use Rattle.history.proofs.Places.{Numbers, Field, Scalar, Waiting, Entry, Link, ready-place, chain-place, ready-cases, waiter-cases, queue-cases}
+use Rattle.history.proofs.Places.{ready-place, chain-place, ready-cases, waiter-cases, queue-cases}
 use Rattle.history.proofs.Frames.{numbers-depend, threads-depend, waits-depend, queues-depend, waiters-depend, work-depends, objects-depend, dpcs-depend}
 use Rattle.history.proofs.Headers.{threads-few, dpcs-few}
 

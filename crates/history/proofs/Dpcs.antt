@@ -1,17 +1,17 @@
 -- The words of a DPC's record stored: its phase, new work, and the inserted timer that has it.
-use Prim.Native.Nat.{ℕ, zero, suc, _+_, _-_, _*_, _≤_, _<_}
+use Prim.Native.Nat.{ℕ, _+_, _-_, _*_, _≤_, _<_}
 use mathlib.Core.List.{List, [], _∷_, _++_}
 use mathlib.Core.Option.{Option, none, some}
 use mathlib.Core.Logic.{_⊎_, inl, inr}
 use mathlib.Core.Path.{_≡_, refl, sym, ap, _∙_, subst}
 use native.Mathlib.Omega.{arith}
-use lib.ListN.{getD, set, length, length-set}
+use lib.ListN.{set, length}
 use Rattle.images.specs.declared.Dpc.{Dpc}
 use Rattle.images.specs.declared.DpcWork.{DpcWork}
 use Rattle.images.specs.declared.DpcOrigin.{DpcOrigin}
 use Rattle.images.specs.declared.DpcOrigin.the-variants as origin
 use Rattle.images.specs.declared.DpcPhase.{DpcPhase}
-use Rattle.images.specs.declared.DpcPhase.the-variants.{Idle, Queued, Running, Returning}
+use Rattle.images.specs.declared.DpcPhase.the-variants.{Queued}
 use Rattle.images.specs.Place.{architectureNumber, backingKind, backingBase, backingSize, backingMapped}
 use Rattle.objects.specs.Objects.{dpcFound}
 use Rattle.dpc.specs.Queue.{originPut, workPut}
@@ -26,7 +26,7 @@ use Rattle.history_tables.proofs.Lists.{find-at, find-in}
 use Rattle.history.specs.Row.{Row}
 use Rattle.history.specs.Records.{flag, dpcRow, workRow, originRow, phaseNumber}
 use Rattle.history.specs.Agree.{dpcsFrom, Agreeing}
-use Rattle.history.proofs.Rows.{Store, store, written, rewritten, In, row-set, row-less, row-more, row-written, blank}
+use Rattle.history.proofs.Rows.{Store, store, written, In, row-set, row-less, row-more, row-written, blank}
 use Rattle.history.proofs.Places.{Unlinked}
 use Rattle.history.proofs.Tables.{sim-dpc}
 use Rattle.history.proofs.Objects.{sim-put-dpc}

@@ -1,12 +1,12 @@
 -- Each component of agreement depends on its region of the words alone.
-use Prim.Native.Nat.{ℕ, zero, suc, _+_, _-_, _*_, _≤_, _<_}
+use Prim.Native.Nat.{ℕ, _+_, _-_, _*_, _≤_, _<_}
 use mathlib.Core.List.{List, [], _∷_}
 use mathlib.Core.Bool.{true}
 use mathlib.Core.Option.{Option, none, some}
-use mathlib.Core.Logic.{_⊎_, inl, inr}
+use mathlib.Core.Logic.{inl, inr}
 use mathlib.Core.Path.{_≡_, refl, sym, ap, _∙_, subst}
 use native.Mathlib.Omega.{arith}
-use lib.ListN.{getD, set, length}
+use lib.ListN.{getD, length}
 use Rattle.images.specs.declared.Dpc.{Dpc}
 use Rattle.images.specs.declared.DpcWork.{DpcWork}
 use Rattle.images.specs.declared.DpcOrigin.{DpcOrigin}
@@ -32,7 +32,7 @@ use Rattle.history.specs.Row.{Row, Of}
 use Rattle.history.specs.Records.{threadRow, termsRow, placesRow, objectRow, workRow, originRow, dpcRow, numberIn, numbersIn}
 use Rattle.history.specs.Chains.{queuesOf, queueFrom}
 use Rattle.history.specs.Shape.{StatusFits, ThreadsFit, DpcsFit}
-use Rattle.history.specs.Agree.{headerOf, Threads, WaitIs, WaitOf, WaitKept, Waits, Objects, DpcTable}
+use Rattle.history.specs.Agree.{headerOf, Threads, WaitOf, WaitKept, Waits, Objects, DpcTable}
 use Rattle.history.proofs.Rows.{row-depends, says-short, silent}
 use Rattle.history.proofs.Places.{ready-place, chain-place, Numbers, Field, Inner, Scalar, Waiting, Entry, Any, Unlinked, ChainWords, ReadyWords, WaiterWords, QueueWords}
 

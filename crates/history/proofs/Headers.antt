@@ -1,13 +1,13 @@
 -- A number of the header set, on the words and in the log. All else stays, for the numbers' region is their own.
-use Prim.Native.Nat.{ℕ, zero, suc, _+_, _-_, _*_, _≤_, _<_}
+use Prim.Native.Nat.{ℕ, _+_, _-_, _*_, _≤_}
 use mathlib.Core.List.{List}
-use mathlib.Core.Option.{Option, none, some}
-use mathlib.Core.Path.{_≡_, refl, sym, ap, _∙_, subst}
+use mathlib.Core.Option.{some}
+use mathlib.Core.Path.{_≡_, sym, _∙_, subst}
 use native.Mathlib.Omega.{arith}
-use lib.ListN.{getD, set, length, length-set}
+use lib.ListN.{set, length, length-set}
 use Rattle.images.specs.declared.Dpc.{Dpc}
 use Rattle.chains.specs.Ready.{waitersChain}
-use Rattle.model.specs.State.{State, Limits, Dispatcher, Dpcs, Counters, Thread, Object, Policy, cpu0Dispatch}
+use Rattle.model.specs.State.{State, Limits, Dispatcher, Counters, Thread, Object}
 use Rattle.model.specs.Threads.{withSequence}
 use Rattle.model.specs.Dpcs.{oneAccepted, oneDuplicate, oneRemoved, oneStarted, oneReturned, oneRestored}
 use Rattle.model.specs.Timers.{most}
@@ -15,13 +15,12 @@ use Rattle.model.specs.Step.{withDispatcher, withDpcs, configured}
 use Rattle.history_chains.specs.Chains.{Holds, Same}
 use Rattle.history_chains.specs.Ready.{ReadyQueues}
 use Rattle.history_chains.proofs.Frames.{set-outside}
-use Rattle.history.specs.Row.{Row, Of}
+use Rattle.history.specs.Row.{Row}
 use Rattle.history.specs.Records.{numbersIn}
 use Rattle.history.specs.Chains.{queuesOf, queueFrom}
-use Rattle.history.specs.Shape.{Shape}
 use Rattle.history.specs.Agree.{Enough, objectsFrom, dpcsFrom, headerOf, Threads, Waits, Objects, DpcTable, ShapeOf, Agreeing}
 use Rattle.history.proofs.Rows.{row-set}
-use Rattle.history.proofs.Places.{Numbers, Field, Scalar, Waiting, Entry, Any, Unlinked, Link, ReadyWords, WaiterWords, QueueWords, ready-cases, waiter-cases, queue-cases}
+use Rattle.history.proofs.Places.{Numbers, ready-cases, waiter-cases, queue-cases}
 use Rattle.history.proofs.Frames.{threads-depend, waits-depend, queues-depend, waiters-depend, work-depends, objects-depend, dpcs-depend}
 
 -- what is told outside the header's numbers, of the pieces that it speaks of

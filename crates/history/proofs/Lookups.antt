@@ -1,25 +1,22 @@
 -- What the words' definitions read from agreeing words is what the log says.
 use Prim.Native.Nat.{ℕ, zero, suc, _+_, _-_, _*_, _≤_, _<_}
 use mathlib.Core.List.{List, [], _∷_}
-use mathlib.Core.Bool.{Bool, true, false, cond}
+use mathlib.Core.Bool.{Bool, cond}
 use mathlib.Core.Option.{Option, none, some}
-use mathlib.Core.Path.{_≡_, refl, sym, ap, _∙_, subst}
+use mathlib.Core.Path.{_≡_, refl, ap, _∙_, subst}
 use native.Mathlib.Omega.{arith}
-use borrow.Author.Tests.{eq-eqb, ne-eqb, le-leb, lt-leb, lt-ltb, le-ltb}
+use borrow.Author.Tests.{eq-eqb, ne-eqb, le-leb, le-ltb}
 use lib.ListN.{getD, length}
-use lib.Dec.{eqb, leb, ltb}
+use lib.Dec.{eqb}
 use Rattle.words.specs.Layout as at
 use Rattle.threads.specs.Thread as words
-use Rattle.threads.specs.declared.Thread as stored
 use Rattle.objects.specs.Objects.{objectsBase, dpcsBase, objectCount, placeOf, dpcFound}
 use Rattle.dpcs.specs.Record.{dpcCount, placeAt, numberOf, queueChain}
-use Rattle.waits.specs.Object as waits
 use Rattle.waits.specs.Lists.{kindIn, keyIn}
-use Rattle.chains.specs.declared.Chain.{Chain}
 use Rattle.images.specs.declared.Dpc.{Dpc}
 use Rattle.model.specs.Lists.{nth, given}
-use Rattle.model.specs.State.{State, Thread, Status, running, ready, waiting, exited, Wait, Named, Object, mutex, event, timer}
-use Rattle.model.specs.Threads.{threadAt, threadOf, isThread, hasExited, statusOf}
+use Rattle.model.specs.State.{State, waiting, Wait, Named, Object, mutex, event, timer}
+use Rattle.model.specs.Threads.{threadOf, isThread, statusOf}
 use Rattle.model.specs.Waits.{keyOf, kindOf, objectAt}
 use Rattle.model.specs.Dpcs.{addressOf, dpcAt}
 use Rattle.model.proofs.TableLaws.{none-some, some-same}
@@ -27,9 +24,9 @@ use Rattle.history_tables.specs.Tables.{below}
 use Rattle.history_tables.proofs.Lists.{find-at}
 use Rattle.history_tables.proofs.Lookups as tables
 use Rattle.history.specs.Row.{Row}
-use Rattle.history.specs.Records.{header, flag, timed, statusNumber, resultNumber, exitStatus, threadRow, termsRow, placesRow, objectRow, dpcRow}
-use Rattle.history.specs.Chains.{queuesOf, queueFrom}
-use Rattle.history.specs.Agree.{objectsFrom, dpcsFrom, headerOf, WaitIs, WaitOf, Agreeing}
+use Rattle.history.specs.Records.{flag, timed, statusNumber, resultNumber, exitStatus, threadRow, placesRow, objectRow, dpcRow}
+use Rattle.history.specs.Chains.{queueFrom}
+use Rattle.history.specs.Agree.{objectsFrom, dpcsFrom, WaitIs, WaitOf, Agreeing}
 use Rattle.history.proofs.Places.{thread-place, objects-place, entry-place}
 use Rattle.history.proofs.Threads.{storedOf}
 use Rattle.history.proofs.Headers.{threads-few, objects-few, dpcs-few}

@@ -1,34 +1,33 @@
 -- An object of the log changed and its words stored: an owner, a signal. A DPC changed: its words, whom it names.
-use Prim.Native.Nat.{ℕ, zero, suc, _+_, _-_, _*_, _≤_, _<_}
-use mathlib.Core.List.{List, [], _∷_, map}
-use mathlib.Core.Bool.{Bool, true, false, cond}
-use mathlib.Core.Option.{Option, none, some}
+use Prim.Native.Nat.{ℕ, suc, _+_, _-_, _*_}
+use mathlib.Core.List.{List, [], _∷_}
+use mathlib.Core.Bool.{Bool, true}
+use mathlib.Core.Option.{Option, some}
 use mathlib.Core.Logic.{_⊎_, inl, inr, ⊎-elim}
 use mathlib.Core.Path.{_≡_, refl, sym, ap, _∙_, subst}
 use native.Mathlib.Omega.{arith}
-use lib.ListN.{getD, set, length}
+use lib.ListN.{set}
 use Rattle.images.specs.declared.Timer.{Timer}
 use Rattle.images.specs.declared.Dpc.{Dpc}
-use Rattle.objects.specs.Objects.{placeOf, dpcFound}
+use Rattle.objects.specs.Objects.{placeOf}
 use Rattle.model.specs.Lists.{Mem, present}
 use Rattle.model.specs.State.{State, Mutex, Event, Object, mutex, event, timer}
-use Rattle.model.specs.Waits.{keyOf, kindOf, objectAt, putObject, ownedBy, signaledAs, withSignal}
+use Rattle.model.specs.Waits.{keyOf, objectAt, putObject, ownedBy, signaledAs, withSignal}
 use Rattle.model.specs.Dpcs.{addressOf, dpcAt, putDpc}
 use Rattle.model.specs.Step.{withTable, withDpcs}
-use Rattle.model.specs.Valid.{Each}
 use Rattle.model.proofs.TableLaws.{rising-put, each-put, length-put-known, mem-put, found, find-put-own, find-put-other}
 use Rattle.model.proofs.DpcLaws.{present-some}
 use Rattle.history_tables.specs.Tables.{below}
-use Rattle.history_tables.proofs.Lists.{find-at, find-in, find-nth, put-known}
+use Rattle.history_tables.proofs.Lists.{find-at, find-in, put-known}
 use Rattle.history_tables.proofs.Numbers.{below-put-known}
 use Rattle.history.specs.Row.{Row}
-use Rattle.history.specs.Records.{flag, objectRow, dpcRow, numberIn, numbersIn}
-use Rattle.history.specs.Shape.{ObjectFits, DpcsFit}
+use Rattle.history.specs.Records.{flag, objectRow, dpcRow, numbersIn}
+use Rattle.history.specs.Shape.{ObjectFits}
 use Rattle.history.specs.Agree.{objectsFrom, dpcsFrom, Agreeing}
 use Rattle.history.proofs.Rows.{Store, store, written, rewritten, In, row-written}
 use Rattle.history.proofs.Places.{Any, Unlinked}
 use Rattle.history.proofs.Tables.{sim-object, sim-dpc}
-use Rattle.history.proofs.Lookups.{object-place, object-row, dpc-place, dpc-row}
+use Rattle.history.proofs.Lookups.{object-place, object-row, dpc-row}
 
 module _ (w : List ℕ) (s : State) (holder : ℕ → ℕ) (active : ℕ) (a : Agreeing w s holder active) where
   -- ---- objects

@@ -1,5 +1,5 @@
 -- An accepted `open`, on any words that are enough, agrees with the state of the log that it starts.
-use Prim.Native.Nat.{ℕ, zero, suc, _+_, _-_, _*_, _^_, _≤_, _<_, zero-le}
+use Prim.Native.Nat.{ℕ, zero, suc, _+_, _-_, _*_, _≤_, _<_, zero-le}
 use mathlib.Core.List.{List, [], _∷_}
 use mathlib.Core.Bool.{Bool, true, false, cond}
 use mathlib.Core.Option.{Option, none, some}
@@ -7,18 +7,12 @@ use mathlib.Core.Path.{_≡_, refl, sym, ap, _∙_, subst}
 use native.Mathlib.Omega.{arith}
 use native.Mathlib.Decide.{ℕ-discrete}
 use borrow.Author.Tests.{ltb-false}
-use lib.Dec.{ltb, lit<}
-use lib.ListN.{getD, set, length, length-set, replicate}
-use Rattle.words.specs.Word.{bitAt}
-use Rattle.words.proofs.ReadyWord.{bit-zero}
-use Rattle.threads.specs.declared.Thread as stored
-use Rattle.threads.specs.declared.Wait as stored-wait
+use lib.Dec.{ltb}
+use lib.ListN.{getD, set, length, length-set}
 use Rattle.threads.specs.Thread.{putThread, putWait, noWait}
 use Rattle.chains.specs.declared.Chain.{Chain}
-use Rattle.chains.specs.Chain.{linkAt}
-use Rattle.chains.specs.Ready.{readyChain, waitersChain}
 use Rattle.kernel.specs.Open.{badPriority, badLimits, wordsNeeded, openRefusal, cleared, limited, started}
-use Rattle.model.specs.State.{State, Limits, Counters, Thread, running, unselected}
+use Rattle.model.specs.State.{Limits, Counters, Thread, running, unselected}
 use Rattle.model.specs.Threads.{threadAt}
 use Rattle.model.specs.Step.{opened}
 use Rattle.model.specs.Valid.{LimitsValid}
@@ -28,13 +22,13 @@ use Rattle.history_chains.proofs.Frames.{read-other, read-same, holds-none}
 use Rattle.history_chains.proofs.ReadyLaws.{ready-none}
 use Rattle.history.specs.Row.{Row}
 use Rattle.history.specs.Records.{header, threadRow}
-use Rattle.history.specs.Chains.{queuesOf, queueFrom}
-use Rattle.history.specs.Shape.{ThreadFits, StatusFits}
+use Rattle.history.specs.Chains.{queueFrom}
+use Rattle.history.specs.Shape.{ThreadFits}
 use Rattle.history.specs.Agree.{WaitOf, WaitKept, Agree}
-use Rattle.history.proofs.Rows.{store, Store, written, In, row-written, row-depends, says-short, written-outside, length-written}
-use Rattle.history.proofs.Places.{waiters-chain, Numbers, Scalar, Waiting, Inner}
-use Rattle.history.proofs.Frames.{header-word, kept-depends}
-use Rattle.history.proofs.Writers.{wait-outside, length-wait}
+use Rattle.history.proofs.Rows.{store, Store, written, row-written, row-depends, says-short, written-outside, length-written}
+use Rattle.history.proofs.Places.{waiters-chain}
+use Rattle.history.proofs.Frames.{kept-depends}
+use Rattle.history.proofs.Writers.{length-wait}
 use Rattle.history.proofs.Threads.{storedOf, thread-writes, length-thread, thread-shows}
 use Rattle.history.proofs.Waits.{InForm, kept-shows, wait-writes}
 

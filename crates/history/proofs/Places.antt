@@ -1,12 +1,9 @@
 -- The places of records and links, and the regions that the components of agreement hold. No two regions have a place in common.
-use Prim.Native.Nat.{ℕ, zero, suc, _+_, _-_, _*_, _≤_, _<_}
-use mathlib.Core.List.{List, [], _∷_}
-use mathlib.Core.Bool.{cond}
+use Prim.Native.Nat.{ℕ, _+_, _-_, _*_, _≤_, _<_}
 use mathlib.Core.Logic.{_⊎_, inl, inr}
-use mathlib.Core.Path.{_≡_, refl, sym, ap, _∙_, subst}
+use mathlib.Core.Path.{_≡_, refl}
 use native.Mathlib.Omega.{arith}
 use borrow.Author.Tests.{le-leb}
-use lib.Dec.{leb}
 use Rattle.words.specs.Layout as at
 use Rattle.words.specs.Layout.{objectsAt, entryAt}
 use Rattle.chains.specs.declared.Chain.{Chain}

@@ -1,15 +1,14 @@
 -- A DPC put last into the queue, taken out of it, and the first one taken: on the words, by numbers, and in the log, by addresses.
-use Prim.Native.Nat.{ℕ, zero, suc, _+_, _-_, _*_, _≤_, _<_}
+use Prim.Native.Nat.{ℕ, _+_, _-_, _*_, _≤_, _<_}
 use mathlib.Core.List.{List, [], _∷_, _++_, map}
-use mathlib.Core.Bool.{Bool, true, false, cond, not}
-use mathlib.Core.Option.{Option, none, some}
+use mathlib.Core.Bool.{true, cond, not}
 use mathlib.Core.Logic.{_⊎_, inl, inr}
 use mathlib.Core.Path.{_≡_, refl, sym, ap, _∙_, subst}
 use native.Mathlib.Omega.{arith}
 use native.Mathlib.Decide.{ℕ-discrete}
 use borrow.Author.Tests.{eq-eqb, ne-eqb}
 use lib.Dec.{eqb}
-use lib.ListN.{getD, set, length}
+use lib.ListN.{length}
 use Rattle.images.specs.declared.Dpc.{Dpc}
 use Rattle.chains.specs.declared.Chain.{Chain}
 use Rattle.chains.specs.Chain.{pushed, removed, unlinked}
@@ -19,7 +18,7 @@ use Rattle.model.specs.Dpcs.{addressOf, dpcAt}
 use Rattle.model.specs.Step.{withDpcs}
 use Rattle.model.proofs.ListLaws.{mem-without, mem-last, distinct-keep, distinct-last}
 use Rattle.model.proofs.TableLaws.{some-same}
-use Rattle.history_chains.specs.Chains.{Holds, Standing, Same, Own, Places, Apart}
+use Rattle.history_chains.specs.Chains.{Holds, Standing, Same, Places, Apart}
 use Rattle.history_chains.proofs.Frames.{own-place, pushed-outside, unlinked-outside, length-pushed, length-removed, length-unlinked}
 use Rattle.history_chains.proofs.ChainLaws.{holds-pushed, holds-removed, holds-cut, removed-outside}
 use Rattle.history_chains.proofs.Places.{queue-apart}
@@ -28,7 +27,7 @@ use Rattle.history.specs.Records.{numberIn, numbersIn}
 use Rattle.history.specs.Chains.{queueFrom}
 use Rattle.history.specs.Shape.{DpcsFit}
 use Rattle.history.specs.Agree.{objectsFrom, dpcsFrom, Agreeing}
-use Rattle.history.proofs.Places.{Entry, Link, QueueWords, chain-place, queue-cases}
+use Rattle.history.proofs.Places.{QueueWords, chain-place, queue-cases}
 use Rattle.history.proofs.Frames.{number-at, numbers-standing, objects-depend, dpcs-depend}
 use Rattle.history.proofs.Headers.{dpcs-few}
 use Rattle.history.proofs.Tables.{Front, front-stays}

@@ -1,9 +1,8 @@
 -- A thread that becomes ready, with the result of its wait: its record, then its place. Yielding, waking and timing out end so.
-use Prim.Native.Nat.{ℕ, zero, suc, _+_, _-_, _*_, _≤_, _<_}
+use Prim.Native.Nat.{ℕ, _+_, _-_, _≤_}
 use mathlib.Core.List.{List, [], _∷_, _++_}
-use mathlib.Core.Option.{Option, none, some}
+use mathlib.Core.Option.{Option}
 use mathlib.Core.Path.{_≡_, refl, sym, ap, _∙_, subst}
-use native.Mathlib.Omega.{arith}
 use borrow.Author.Tests.{eq-eqb}
 use lib.Dec.{eqb}
 use lib.ListN.{set, length}
@@ -14,12 +13,12 @@ use Rattle.chains.specs.Ready.{placedLast}
 use Rattle.waits.specs.Wake.{madeReady}
 use Rattle.kernel.specs.Thread.{yieldedWords}
 use Rattle.model.specs.Lists.{Mem, without}
-use Rattle.model.specs.State.{State, Dispatcher, Thread, Status, running, ready, WaitResult}
-use Rattle.model.specs.Threads.{threadAt, threadOf, statusOf, priorityOf, changeAt, withThread, withStatus, becomes, yielded}
+use Rattle.model.specs.State.{State, Dispatcher, Thread, running, ready, WaitResult}
+use Rattle.model.specs.Threads.{threadOf, statusOf, priorityOf, changeAt, withThread, becomes, yielded}
 use Rattle.model.specs.Step.{withDispatcher}
 use Rattle.model.proofs.ListLaws.{without-absent}
 use Rattle.model.proofs.ThreadLaws.{length-change, change-own}
-use Rattle.history.specs.Records.{resultNumber, exitStatus, statusNumber}
+use Rattle.history.specs.Records.{resultNumber, exitStatus}
 use Rattle.history.specs.Agree.{Agreeing}
 use Rattle.history.proofs.Headers.{withCurrent, sim-current}
 use Rattle.history.proofs.Threads.{storedOf, sim-thread}
@@ -33,7 +32,7 @@ readyThread d id r = record { priority = priorityOf d id; status = ready; result
 module _ (w : List ℕ) (s : State) (holder : ℕ → ℕ) (active : ℕ) (a : Agreeing w s holder active) where
   pub sim-ready : (id : ℕ) (r : Option WaitResult) → 1 ≤ id → id ≤ length (s .dispatcher .threads) → exitStatus (statusOf (s .dispatcher) id) ≡ 0 → (Mem id (s .dispatcher .placed) → ⊥)
       → Agreeing (madeReady w id (resultNumber r))
-        (withDispatcher s (withPlaced (withThread (s .dispatcher) id (readyThread (s .dispatcher) id r)) (s .dispatcher .placed ++ (id ∷ [])))) holder active
+      (withDispatcher s (withPlaced (withThread (s .dispatcher) id (readyThread (s .dispatcher) id r)) (s .dispatcher .placed ++ (id ∷ [])))) holder active
   unfolding madeReady
   sim-ready id r one le live absent =
       subst (λ (x : stored.Thread). Agreeing (placedLast (words.putThread w id (record { priority = x .priority; state = 2; result = resultNumber r; status = x .status })) (x .priority) id) after holder active)
@@ -56,28 +55,51 @@ module _ (w : List ℕ) (s : State) (holder : ℕ → ℕ) (active : ℕ) (a : A
       b = sim-thread w s holder active a id t one le
           (record { one = a .shape .fit id one le .one; small = a .shape .fit id one le .small; wait = tt }) (λ m. refl) tt
 
-  -- `yield_current`, where the current thread runs and stands in no list
+-- what `becomes` says of a thread that becomes ready and stood in no list
+pub becomes-ready : (d : Dispatcher) (id p : ℕ) (r : Option WaitResult) → (Mem id (d .placed) → ⊥) → (Mem id (d .waiters) → ⊥)
+    → becomes d id (record { priority = p; status = ready; result = r })
+    ≡ record {
+      threads = changeAt (d .threads) id (record { priority = p; status = ready; result = r });
+      current = cond (eqb (d .current) id) 0 (d .current);
+      placed = d .placed ++ (id ∷ []);
+      waiters = d .waiters;
+      sequence = d .sequence;
+      objects = d .objects;
+    }
+unfolding becomes
+becomes-ready d id p r unplaced unblocked =
+    ap (λ (l : List ℕ). step l (without id (d .waiters))) (without-absent id (d .placed) unplaced) ∙ ap (step (d .placed)) (without-absent id (d .waiters) unblocked)
+  where
+    step : List ℕ → List ℕ → Dispatcher
+    step placed waiters = record {
+      threads = changeAt (d .threads) id (record { priority = p; status = ready; result = r });
+      current = cond (eqb (d .current) id) 0 (d .current);
+      placed = placed ++ (id ∷ []);
+      waiters = waiters;
+      sequence = d .sequence;
+      objects = d .objects;
+    }
+
+-- ---- `yield_current`, where the current thread runs and stands in no list
+
+module _ (w : List ℕ) (s : State) (holder : ℕ → ℕ) (active : ℕ) (a : Agreeing w s holder active) where
+  abbrev id : ℕ
+  id = s .dispatcher .current
+
+  abbrev result : Option WaitResult
+  result = threadOf (s .dispatcher) id .result
+
   pub agree-yield : 1 ≤ s .dispatcher .current → s .dispatcher .current ≤ length (s .dispatcher .threads) → statusOf (s .dispatcher) (s .dispatcher .current) ≡ running
       → (Mem (s .dispatcher .current) (s .dispatcher .placed) → ⊥) → (Mem (s .dispatcher .current) (s .dispatcher .waiters) → ⊥)
       → Agreeing (yieldedWords w (s .dispatcher .current)) (withDispatcher s (yielded (s .dispatcher))) holder active
-  unfolding yieldedWords yielded becomes
+  unfolding yieldedWords yielded
   agree-yield one le runs unplaced unblocked =
       subst (λ (x : stored.Thread). Agreeing (madeReady (set w 6 0) id (x .result)) (withDispatcher s (yielded (s .dispatcher))) holder active) (sym (thread-is w s holder active a id one le))
-      (subst (λ (d : Dispatcher). Agreeing (madeReady (set w 6 0) id (resultNumber (threadOf (s .dispatcher) id .result))) (withDispatcher s d) holder active) (sym same)
-      (sim-ready′ id (threadOf (s .dispatcher) id .result) one le (ap exitStatus runs) unplaced))
+      (subst (λ (d : Dispatcher). Agreeing (madeReady (set w 6 0) id (resultNumber result)) (withDispatcher s d) holder active) (sym same)
+      (sim-ready (set w 6 0) (withDispatcher s (withCurrent (s .dispatcher) 0)) holder active (sim-current w s holder active a 0) id result one le (ap exitStatus runs) unplaced))
     where
-      id : ℕ
-      id = s .dispatcher .current
-
-      s₁ : State
-      s₁ = withDispatcher s (withCurrent (s .dispatcher) 0)
-
-      sim-ready′ : (id : ℕ) (r : Option WaitResult) → 1 ≤ id → id ≤ length (s .dispatcher .threads) → exitStatus (statusOf (s .dispatcher) id) ≡ 0 → (Mem id (s .dispatcher .placed) → ⊥)
-          → Agreeing (madeReady (set w 6 0) id (resultNumber r))
-            (withDispatcher s₁ (withPlaced (withThread (s₁ .dispatcher) id (readyThread (s₁ .dispatcher) id r)) (s₁ .dispatcher .placed ++ (id ∷ [])))) holder active
-      sim-ready′ = ?
-
-      same : yielded (s .dispatcher)
-          ≡ withPlaced (withThread (withCurrent (s .dispatcher) 0) (s .dispatcher .current) (readyThread (s .dispatcher) (s .dispatcher .current) (threadOf (s .dispatcher) (s .dispatcher .current) .result)))
-            (s .dispatcher .placed ++ (s .dispatcher .current ∷ []))
-      same = ?
+      same : yielded (s .dispatcher) ≡ withPlaced (withThread (withCurrent (s .dispatcher) 0) id (readyThread (s .dispatcher) id result)) (s .dispatcher .placed ++ (id ∷ []))
+      same =
+          becomes-ready (s .dispatcher) id (priorityOf (s .dispatcher) id) result unplaced unblocked
+          ∙ ap (λ (b : Bool). record { threads = changeAt (s .dispatcher .threads) id (readyThread (s .dispatcher) id result); current = cond b 0 id; placed = s .dispatcher .placed ++ (id ∷ []); waiters = s .dispatcher .waiters; sequence = s .dispatcher .sequence; objects = s .dispatcher .objects })
+          (eq-eqb id id refl)

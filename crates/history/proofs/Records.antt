@@ -1,9 +1,9 @@
 -- Whole records read from their rows: a row of a timer or a DPC is read as that timer or DPC.
-use Prim.Native.Nat.{ℕ, zero, suc, _+_}
-use mathlib.Core.List.{List, [], _∷_}
-use mathlib.Core.Bool.{Bool, true, false, cond, not}
+use Prim.Native.Nat.{ℕ, _+_}
+use mathlib.Core.List.{List, _∷_}
+use mathlib.Core.Bool.{Bool, true, false, not}
 use mathlib.Core.Option.{Option, none, some}
-use mathlib.Core.Path.{_≡_, refl, sym, ap, _∙_, subst}
+use mathlib.Core.Path.{_≡_, refl, ap, _∙_}
 use native.Mathlib.Omega.{arith}
 use lib.ListN.{getD}
 use lib.Dec.{eqb}
@@ -13,7 +13,6 @@ use Rattle.images.specs.declared.Timer.{Timer}
 use Rattle.images.specs.declared.TimerBacking.{TimerBacking}
 use Rattle.images.specs.declared.TimerBacking.the-variants.{Image, NonpagedPool}
 use Rattle.images.specs.declared.Dpc.{Dpc}
-use Rattle.images.specs.declared.DpcWork.{DpcWork}
 use Rattle.images.specs.declared.DpcOrigin.{DpcOrigin}
 use Rattle.images.specs.declared.DpcOrigin.the-variants as origin
 use Rattle.images.specs.declared.DpcPhase.{DpcPhase}

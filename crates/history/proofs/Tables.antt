@@ -1,32 +1,32 @@
 -- A record of a table written, on the words and in the log: of an object, or of a DPC. The list of the log is given by what stands at its
 -- positions.
-use Prim.Native.Nat.{ℕ, zero, suc, _+_, _-_, _*_, _≤_, _<_}
-use mathlib.Core.List.{List, [], _∷_}
-use mathlib.Core.Option.{Option, none, some}
+use Prim.Native.Nat.{ℕ, _+_, _-_, _*_, _≤_, _<_}
+use mathlib.Core.List.{List}
+use mathlib.Core.Option.{some}
 use mathlib.Core.Path.{_≡_, refl, sym, ap, _∙_, subst}
 use native.Mathlib.Omega.{arith}
 use native.Mathlib.Decide.{ℕ-discrete}
-use lib.ListN.{getD, set, length}
+use lib.ListN.{getD, length}
 use Rattle.images.specs.declared.Dpc.{Dpc}
 use Rattle.chains.specs.Ready.{waitersChain}
 use Rattle.model.specs.Lists.{nth}
 use Rattle.model.specs.Table.{Rising}
-use Rattle.model.specs.State.{State, Thread, Object, Dpcs}
+use Rattle.model.specs.State.{State, Object}
 use Rattle.model.specs.Waits.{keyOf}
 use Rattle.model.specs.Step.{withTable, withDpcs}
 use Rattle.model.specs.Valid.{Each}
 use Rattle.model.proofs.TableLaws.{some-same}
 use Rattle.history_chains.specs.Chains.{Holds, Same}
 use Rattle.history_chains.specs.Ready.{ReadyQueues}
-use Rattle.history.specs.Row.{Row, Of}
+use Rattle.history.specs.Row.{Row}
 use Rattle.history.specs.Records.{header, objectRow, dpcRow, numbersIn}
 use Rattle.history.specs.Chains.{queuesOf, queueFrom}
-use Rattle.history.specs.Shape.{Shape, Sizes, ObjectFits, DpcsFit}
-use Rattle.history.specs.Agree.{Enough, objectsFrom, dpcsFrom, headerOf, Threads, Waits, Objects, DpcTable, ShapeOf, Agreeing}
-use Rattle.history.proofs.Rows.{row-depends, says-short, Store, store, written, rewritten, In, written-outside, length-written, row-written}
-use Rattle.history.proofs.Places.{Numbers, Field, Scalar, Waiting, Inner, Entry, Any, Unlinked, Link, ReadyWords, WaiterWords, QueueWords, ready-cases, waiter-cases, queue-cases}
+use Rattle.history.specs.Shape.{ObjectFits, DpcsFit}
+use Rattle.history.specs.Agree.{objectsFrom, dpcsFrom, headerOf, Threads, Waits, Agreeing}
+use Rattle.history.proofs.Rows.{row-depends, says-short, Store, written, In, written-outside, length-written}
+use Rattle.history.proofs.Places.{Inner, Any, Unlinked, ready-cases, waiter-cases, queue-cases}
 use Rattle.history.proofs.Frames.{numbers-depend, threads-depend, waits-depend, queues-depend, waiters-depend, work-depends, objects-depend, dpcs-depend, object-short, dpc-short}
-use Rattle.history.proofs.Headers.{threads-few, objects-few, dpcs-few}
+use Rattle.history.proofs.Headers.{threads-few, dpcs-few}
 
 -- ---- what stands before the tables
 

@@ -1,36 +1,30 @@
 -- A thread's record written, on the words and in the log: its scalars, or its wait.
-use Prim.Native.Nat.{ℕ, zero, suc, _+_, _-_, _*_, _≤_, _<_}
-use mathlib.Core.List.{List, [], _∷_}
-use mathlib.Core.Bool.{Bool, true, false, cond}
-use mathlib.Core.Option.{Option, none, some}
-use mathlib.Core.Logic.{_⊎_, inl, inr}
+use Prim.Native.Nat.{ℕ, _+_, _-_, _*_, _≤_, _<_}
+use mathlib.Core.List.{List}
 use mathlib.Core.Path.{_≡_, refl, sym, ap, _∙_, subst}
 use native.Mathlib.Omega.{arith}
 use native.Mathlib.Decide.{ℕ-discrete}
-use lib.ListN.{getD, set, length}
-use lib.Dec.{eqb}
+use lib.ListN.{length}
 use Rattle.threads.specs.declared.Thread as stored
-use Rattle.threads.specs.declared.Wait as stored-wait
-use Rattle.threads.specs.Thread.{putThread, putWait}
-use Rattle.chains.specs.Ready.{waitersChain, readyChain}
-use Rattle.model.specs.Lists.{Mem, keep}
-use Rattle.model.specs.State.{State, Thread, Status, running, ready, waiting, exited, Wait}
-use Rattle.model.specs.Threads.{threadAt, changeAt, withThread, isWaiting}
+use Rattle.threads.specs.Thread.{putThread}
+use Rattle.chains.specs.Ready.{waitersChain}
+use Rattle.model.specs.Lists.{Mem}
+use Rattle.model.specs.State.{State, Thread}
+use Rattle.model.specs.Threads.{threadAt, changeAt, withThread}
 use Rattle.model.specs.Step.{withDispatcher}
-use Rattle.model.proofs.ListLaws.{not-both}
 use Rattle.model.proofs.ThreadLaws.{length-change, change-own, change-other}
 use Rattle.history_chains.specs.Chains.{Holds, Standing, Same}
 use Rattle.history_chains.specs.Ready.{ReadyQueues}
 use Rattle.history_chains.proofs.Placed.{ready-priorities}
-use Rattle.history.specs.Row.{Row, Of}
-use Rattle.history.specs.Records.{header, activeAddress, threadRow, termsRow, placesRow, statusNumber, exitStatus, resultNumber, timed, flag, numbersIn}
+use Rattle.history.specs.Row.{Row}
+use Rattle.history.specs.Records.{header, threadRow, statusNumber, exitStatus, resultNumber, numbersIn}
 use Rattle.history.specs.Chains.{queuesOf, queueFrom}
-use Rattle.history.specs.Shape.{ThreadFits, ThreadsFit, Shape}
-use Rattle.history.specs.Agree.{headerOf, Threads, Waits, WaitIs, WaitOf, WaitKept, Enough, objectsFrom, dpcsFrom, Objects, DpcTable, ShapeOf, Agreeing}
-use Rattle.history.proofs.Rows.{Store, written, In, row-depends, says-short, blank, row-blank, row-drop, row-written, written-outside, length-written, rewritten}
-use Rattle.history.proofs.Places.{Numbers, Field, Scalar, Waiting, Own, Inner, Entry, Any, Unlinked, Link, ReadyWords, WaiterWords, QueueWords, ready-cases, waiter-cases, queue-cases}
-use Rattle.history.proofs.Frames.{header-word, thread-word, waiting-word, length-places, numbers-depend, threads-depend, kept-depends, wait-depends, waits-depend, queues-depend, waiters-depend, work-depends, objects-depend, dpcs-depend}
-use Rattle.history.proofs.Writers.{threadStores, thread-stores, put-thread, wait-outside, length-wait, termStores, placeStores, put-wait, place-stores, term-stores}
+use Rattle.history.specs.Shape.{ThreadFits}
+use Rattle.history.specs.Agree.{headerOf, WaitOf, Enough, objectsFrom, dpcsFrom, Objects, DpcTable, Agreeing}
+use Rattle.history.proofs.Rows.{row-depends, says-short, blank, row-blank, row-written, written-outside, length-written}
+use Rattle.history.proofs.Places.{Scalar, Waiting, Own, Inner, ready-cases, waiter-cases, queue-cases}
+use Rattle.history.proofs.Frames.{numbers-depend, kept-depends, wait-depends, queues-depend, waiters-depend, work-depends, objects-depend, dpcs-depend}
+use Rattle.history.proofs.Writers.{threadStores, thread-stores, put-thread}
 use Rattle.history.proofs.Headers.{threads-few, dpcs-few}
 
 -- ---- what stays when words of one record are written that are no links

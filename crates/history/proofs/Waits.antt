@@ -1,7 +1,7 @@
 -- A wait written: the words then hold it, and of a thread that does not wait nothing else is said.
 use Prim.Native.Nat.{ℕ, zero, suc, _+_, _-_, _*_, _≤_, _<_}
 use mathlib.Core.List.{List, [], _∷_}
-use mathlib.Core.Bool.{Bool, true, false}
+use mathlib.Core.Bool.{false}
 use mathlib.Core.Option.{Option, none, some}
 use mathlib.Core.Path.{_≡_, refl, sym, ap, _∙_, subst}
 use native.Mathlib.Omega.{arith}
@@ -13,10 +13,9 @@ use Rattle.model.specs.State.{State, Status, running, ready, waiting, exited, W
 use Rattle.model.specs.Threads.{threadAt, isWaiting}
 use Rattle.model.proofs.ListLaws.{not-both}
 use Rattle.history_chains.specs.Chains.{Same}
-use Rattle.history_chains.proofs.Frames.{read-other, read-same}
+use Rattle.history_chains.proofs.Frames.{read-same}
 use Rattle.history.specs.Row.{Row}
 use Rattle.history.specs.Records.{flag, timed, termsRow, placesRow, threadRow}
-use Rattle.history.specs.Shape.{StatusFits}
 use Rattle.history.specs.Agree.{WaitIs, WaitOf, WaitKept, Agreeing}
 use Rattle.history.proofs.Rows.{row-depends, says-short, blank, row-blank, row-drop, row-written, written, written-outside, length-written}
 use Rattle.history.proofs.Places.{Field, Scalar, Waiting, Own, Inner}

@@ -14,7 +14,7 @@ use Rattle.images.specs.declared.DpcPhase.{DpcPhase}
 use Rattle.images.specs.declared.DpcPhase.the-variants.{Idle, Queued, Running, Returning}
 use Rattle.images.specs.Place.{architectureNumber, backingKind, backingBase, backingSize, backingMapped}
 use Rattle.model.specs.Lists.{firstOf, given}
-use Rattle.model.specs.State.{State, Limits, Counters, Policy, unselected, cpu0Dispatch, Thread, Status, running, ready, waiting, exited, Wait, WaitResult, satisfied, timeout, Named, Object, mutex, event, timer}
+use Rattle.model.specs.State.{Limits, Counters, Policy, unselected, cpu0Dispatch, Thread, Status, running, ready, waiting, exited, Wait, WaitResult, satisfied, timeout, Named, Object, mutex, event, timer}
 use Rattle.model.specs.Waits.{timersOf}
 use Rattle.model.specs.Dpcs.{addressOf, activeDpc, workOf}
 use Rattle.history_tables.specs.Tables.{below}
