@@ -1,6 +1,7 @@
 //! Compares the proved library with the Rust originals that it ports.
 mod bench;
 mod clock;
+#[path = "../../bindings/rust/src/ffi.rs"]
 mod ffi;
 mod quiet;
 mod random;

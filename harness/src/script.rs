@@ -6,6 +6,7 @@ use crate::clock;
 use crate::random::Random;
 use crate::scheduler::draw::Draw;
 use crate::scheduler::reference::{Lengths, Reference};
+use crate::scheduler::state::State;
 use crate::scheduler::{Call, Limits};
 use std::fs;
 use std::path::Path;
@@ -60,8 +61,17 @@ impl<'a> Script<'a> {
             script.random_line()?;
         }
         script.open(1 + random.below(31) as u8);
+        if random.below(8) < 6 {
+            let call = script.draw.configure();
+            script.scheduler_call(&call)?;
+        }
         for index in 0..random.pick(&[0, keys as usize, keys as usize + 20]) {
             let call = script.draw.addition(index, LIMITS);
+            script.scheduler_call(&call)?;
+        }
+        for _ in 0..random.pick(&[0, 0, 8, 30]) {
+            let state = script.state();
+            let call = script.draw.arming(&state);
             script.scheduler_call(&call)?;
         }
         for _ in 0..20 + random.below(180) {
@@ -99,9 +109,14 @@ impl<'a> Script<'a> {
         self.push(format!("open {priority}"), answer);
     }
 
-    fn scheduler_line(&mut self) -> Result<(), String> {
+    /// That of a new scheduler before there is one.
+    fn state(&mut self) -> State {
         let mut start = Reference::new(8, LIMITS);
-        let state = self.scheduler.as_mut().unwrap_or(&mut start).state();
+        self.scheduler.as_mut().unwrap_or(&mut start).state()
+    }
+
+    fn scheduler_line(&mut self) -> Result<(), String> {
+        let state = self.state();
         let call = self.draw.call(&state, LIMITS);
         if let Call::Open { priority, .. } = call
             && let Ok(priority) = u8::try_from(priority)
@@ -121,7 +136,7 @@ impl<'a> Script<'a> {
         let answer = match &mut self.scheduler {
             None => UNREADABLE.to_string(),
             Some(scheduler) => {
-                let answer = scheduler.call(call, Lengths::needed(LIMITS))?;
+                let answer = scheduler.call(call, Lengths::needed(LIMITS, call))?;
                 line::scheduler_answer(call, &answer)
             }
         };

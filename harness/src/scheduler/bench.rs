@@ -1,9 +1,12 @@
 //! The same random calls on the proved scheduler and on the original, in calls a second.
-use super::answer::{self, Answer};
+mod advance;
+
+use super::answer::Answer;
 use super::draw::Draw;
 use super::original::{objects, original};
-use super::proved::{Lent, Side, proved};
+use super::proved::{Side, proved};
 use super::reference::{Lengths, Reference};
+use super::room::Room;
 use super::words;
 use super::{Call, Limits};
 use crate::bench::median;
@@ -35,6 +38,8 @@ pub fn run() {
             row(&format!("{threads} threads, {name}"), side, &lists);
         }
     }
+    println!();
+    advance::run(proved);
 }
 
 /// A scheduler on both sides, and calls on it.
@@ -59,17 +64,18 @@ fn lists(threads: u64) -> Vec<List> {
 }
 
 impl List {
-    /// Calls on as many threads, and up to as many objects.
+    /// Calls on as many threads, and up to as many objects and DPCs.
     fn new(random: &Random, threads: u64) -> Self {
         let limits = Limits::new(threads, threads, threads);
         let draw = Draw::new(random, threads);
         let (mut words, mut reference) = opened(limits);
-        let additions = (1..threads).map(|_| Call::CreateThread { priority: 8 });
-        let additions = additions.chain((0..threads as usize).map(|i| draw.addition(i, limits)));
+        let threads = (1..threads).map(|_| Call::CreateThread { priority: 8 });
+        let others = (0..2 * limits.objects as usize).map(|i| draw.addition(i, limits));
+        let additions = [draw.configure()].into_iter().chain(threads).chain(others);
         for call in additions {
             if reference.foretold(&call).is_none() {
                 made(&mut reference, &call);
-                proved(Room::new(limits).lent(&mut words), &call);
+                proved(Room::unused().most(&mut words), &call);
             }
         }
         let scheduler = reference.scheduler().clone();
@@ -100,10 +106,10 @@ impl List {
     fn proved(&self, side: Side) -> Duration {
         let limits = self.end.limits();
         let mut words = self.words.clone();
-        let mut room = Room::new(limits);
+        let mut room = Room::unused();
         let start = Instant::now();
         for (call, _) in &self.calls {
-            black_box(side(room.lent(&mut words), call));
+            black_box(side(room.most(&mut words), call));
         }
         let time = start.elapsed();
         let state = words::state(&words, limits).expect("a state");
@@ -121,29 +127,6 @@ impl List {
     }
 }
 
-/// Where a proved call writes its answer.
-struct Room {
-    out: [u64; answer::WORDS],
-    waiting: Vec<u64>,
-}
-
-impl Room {
-    fn new(limits: Limits) -> Self {
-        Self {
-            out: [0; answer::WORDS],
-            waiting: vec![0; limits.threads as usize],
-        }
-    }
-
-    fn lent<'a>(&'a mut self, words: &'a mut [u64]) -> Lent<'a> {
-        Lent {
-            words,
-            out: &mut self.out,
-            waiting: &mut self.waiting,
-        }
-    }
-}
-
 fn opened(limits: Limits) -> (Vec<u64>, Reference) {
     let mut words = vec![0; limits.words()];
     let priority = 8;
@@ -151,12 +134,12 @@ fn opened(limits: Limits) -> (Vec<u64>, Reference) {
         priority: priority.into(),
         limits,
     };
-    assert_eq!(proved(Room::new(limits).lent(&mut words), &opening), 0);
+    assert_eq!(proved(Room::unused().most(&mut words), &opening), 0);
     (words, Reference::new(priority, limits))
 }
 
 fn made(reference: &mut Reference, call: &Call) {
-    let lent = Lengths::needed(reference.limits());
+    let lent = Lengths::needed(reference.limits(), call);
     reference.call(call, lent).expect("an answer");
 }
 

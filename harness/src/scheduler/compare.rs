@@ -1,110 +1,138 @@
 //! Random sequences of calls on both schedulers: answers, the whole visible state, and the rest of
 //! what was lent.
+mod both;
+mod damage;
+pub mod put;
 mod report;
 mod scene;
+mod smallest;
+mod survey;
 
-use super::answer::{self, Answer};
-use super::damage;
+use super::Call;
 use super::draw::Draw;
-use super::proved::{Lent, proved};
-use super::reference::{Lengths, Reference};
-use super::state::State;
-use super::words;
-use super::{Call, Limits};
+use super::reference::Lengths;
+use super::room::{BYTES, OUT, WAITING};
 use crate::random::Random;
-use crate::tally::Tally;
-use report::{Step, Tallies};
+use crate::tally::Kind;
+use both::{Both, Step};
+use put::Put;
+use report::Tallies;
 use scene::Scene;
 
-/// What the slices hold where no call may write.
-pub const UNUSED: u64 = 0x5555_aaaa_3333_cccc;
-/// The most words that are lent for an answer and for the waiting threads, and past those needed.
-pub const OUT: usize = answer::WORDS + 2;
-pub const WAITING: usize = Limits::MOST.threads as usize + 2;
-const TAIL: usize = 5;
+/// How many calls are made on changed words.
+const DAMAGED_CALLS: u64 = 5;
 
-/// Compares at least `calls` calls. A difference is an error, which tells the whole history of
-/// its scheduler and both states.
+/// Compares at least `calls` calls. A difference is an error, which tells a short history of a
+/// scheduler that ends in one, and both states.
 pub fn run(calls: u64, random: &Random) -> Result<Tallies, String> {
     let mut tallies = Tallies::default();
     while tallies.compared.total() < calls {
         let scene = Scene::new(random);
-        let mut pair = Pair::new(random, &scene);
-        if let Err(difference) = pair.life(&scene, &mut tallies) {
-            return Err(pair.told(&difference));
+        let mut life = Life {
+            random,
+            draw: Draw::new(random, scene.keys),
+            both: Both::new(scene.limits),
+            history: Vec::new(),
+        };
+        if life.run(&scene, &mut tallies).is_err() {
+            let steps = smallest::smallest(scene.limits, &life.history);
+            return Err(smallest::told(scene.limits, &steps));
         }
     }
     Ok(tallies)
 }
 
-struct Pair<'a> {
+/// There is a difference; the history ends with it.
+struct Differs;
+
+struct Life<'a> {
     random: &'a Random,
     draw: Draw<'a>,
-    reference: Reference,
-    /// The state after the last call.
-    state: State,
-    /// The proved scheduler, with unused words after it, and the same as the last call left it.
-    words: Vec<u64>,
-    before: Vec<u64>,
+    both: Both,
     history: Vec<Step>,
 }
 
-impl<'a> Pair<'a> {
-    fn new(random: &'a Random, scene: &Scene) -> Self {
-        let mut reference = Reference::new(1, scene.limits);
-        let words = vec![UNUSED; scene.limits.words() + TAIL];
-        Self {
-            random,
-            draw: Draw::new(random, scene.keys),
-            state: reference.state(),
-            reference,
-            before: words.clone(),
-            words,
-            history: Vec::new(),
-        }
-    }
-
+impl Life<'_> {
     /// One scheduler, from an opening that succeeds.
-    fn life(&mut self, scene: &Scene, tallies: &mut Tallies) -> Result<(), String> {
+    fn run(&mut self, scene: &Scene, tallies: &mut Tallies) -> Result<(), Differs> {
         let opening = Call::Open {
             priority: 1 + self.random.below(31),
             limits: scene.limits,
         };
-        self.call(opening, self.usual(), tallies)?;
+        self.plain(opening, tallies)?;
+        if scene.policy {
+            let call = self.draw.configure();
+            self.plain(call, tallies)?;
+        }
         for index in 0..scene.additions {
             let call = self.draw.addition(index, scene.limits);
-            self.call(call, self.usual(), tallies)?;
+            self.plain(call, tallies)?;
+        }
+        for _ in 0..scene.armings {
+            let call = self.draw.arming(self.both.state());
+            self.plain(call, tallies)?;
         }
         for call in 0..scene.calls {
-            if scene.end_of_sequence == Some(call) {
-                self.put_sequence();
+            if scene.put == Some(call)
+                && let Some(put) = Put::new(self.random, self.both.state())
+            {
+                self.step(Step::Put(put))?;
             }
-            let call = self.draw.call(&self.state, self.reference.limits());
+            let call = self.draw.call(self.both.state(), self.both.limits());
             let lent = self.lengths(&call);
             self.call(call, lent, tallies)?;
-            if self.random.once_in(scene.damage) {
-                self.damage(&mut tallies.damaged)?;
+            if self.random.once_in(scene.survey) {
+                for call in survey::calls(self.random, self.both.state()) {
+                    self.plain(call, tallies)?;
+                }
             }
-            if self.state.is_stuck() && self.random.once_in(16) {
+            if self.random.once_in(scene.damage) {
+                self.damage(tallies)?;
+            }
+            if self.both.state().is_stuck() && self.random.once_in(16) {
                 break;
             }
         }
         Ok(())
     }
 
-    fn usual(&self) -> Lengths {
-        Lengths::needed(self.reference.limits())
+    fn step(&mut self, step: Step) -> Result<Option<Counted>, Differs> {
+        let answer = self.both.step(&step);
+        let counted = match (&step, &answer) {
+            (Step::Call { call, .. }, Ok(Some(answer))) => Some((call.name(), answer.kind())),
+            _ => None,
+        };
+        self.history.push(step);
+        answer.map_err(|_| Differs)?;
+        Ok(counted)
+    }
+
+    fn call(&mut self, call: Call, lent: Lengths, tallies: &mut Tallies) -> Result<(), Differs> {
+        if let Some((name, kind)) = self.step(Step::Call { call, lent })? {
+            tallies.compared.count(name, kind, None);
+            let message = self.both.message();
+            let message = message.map(|message| (name, message));
+            tallies.messages.extend(message);
+        }
+        Ok(())
+    }
+
+    /// A call with as much lent as it needs.
+    fn plain(&mut self, call: Call, tallies: &mut Tallies) -> Result<(), Differs> {
+        let lent = Lengths::needed(self.both.limits(), &call);
+        self.call(call, lent, tallies)
     }
 
     /// Mostly as many words as are needed, or more; now and then fewer of one slice.
     fn lengths(&self, call: &Call) -> Lengths {
         let random = self.random;
-        let usual = self.usual();
+        let usual = Lengths::needed(self.both.limits(), call);
         let short = |length: usize| random.pick(&[0, 1, length - 1, length / 2]).min(length - 1);
         let more = Lengths {
-            words: self.words.len(),
+            words: self.both.words().len(),
             out: OUT,
             waiting: WAITING,
+            bytes: BYTES,
         };
         match random.below(64) {
             0 => Lengths {
@@ -122,105 +150,41 @@ impl<'a> Pair<'a> {
                 waiting: short(usual.waiting),
                 ..usual
             },
+            3..=10 if call.answers_image() => Lengths {
+                bytes: short(usual.bytes),
+                ..usual
+            },
             3..=15 => more,
             _ => usual,
         }
     }
 
-    /// Sets the next wait sequence to the end of its range, or just before, on both sides.
-    fn put_sequence(&mut self) {
-        let sequence = u64::MAX - self.random.below(4);
-        self.history.push(Step::Sequence(sequence));
-        self.reference.set_sequence(sequence);
-        self.state.sequence = sequence;
-        self.words[words::SEQUENCE] = sequence;
-        self.before[words::SEQUENCE] = sequence;
-    }
-
-    fn damage(&self, tally: &mut Tally) -> Result<(), String> {
-        let limits = self.reference.limits();
-        damage::trial(
-            self.random,
-            &self.draw,
-            &self.words,
-            (&self.state, limits),
-            tally,
-        )
-    }
-
-    fn call(&mut self, call: Call, lent: Lengths, tallies: &mut Tallies) -> Result<(), String> {
-        let (name, reads) = (call.name(), call.reads());
-        let expected = self.reference.call(&call, lent);
-        let (mut out, mut waiting) = ([UNUSED; OUT], [UNUSED; WAITING]);
-        let number = proved(
-            Lent {
-                words: &mut self.words[..lent.words],
-                out: &mut out[..lent.out],
-                waiting: &mut waiting[..lent.waiting],
-            },
-            &call,
-        );
-        self.history.push(Step::Call { call, lent });
-        let expected = expected?;
-        let cleared = if number == 0 { answer::WORDS } else { 0 };
-        if number != expected.number()
-            || !is_written(&out, &expected.words(), cleared)
-            || !is_written(&waiting, expected.waiting(), 0)
-        {
-            let proved = Answer::read(number, &out, &waiting);
-            return Err(format!(
-                "expected {expected:?}\nproved   {number} {out:?} {proved:?}"
-            ));
+    /// Changes a word and makes a few calls, and then goes on as if nothing had been. Where there is
+    /// a difference, the history has that too.
+    fn damage(&mut self, tallies: &mut Tallies) -> Result<(), Differs> {
+        let (both, length) = (self.both.clone(), self.history.len());
+        for step in damage::steps(self.random, &self.both) {
+            self.step(step)?;
         }
-        self.compare(reads || number != 0)?;
-        tallies.compared.count(name, expected.kind(), None);
-        let message = self.reference.message();
-        tallies
-            .messages
-            .extend(message.map(|message| (name, message)));
-        self.history.push(Step::Answer(expected));
+        match self.both.fault() {
+            Some(fault) => *tallies.faults.entry(fault).or_default() += 1,
+            None => tallies.in_form += 1,
+        }
+        for _ in 0..DAMAGED_CALLS {
+            let call = self.draw.call(self.both.state(), self.both.limits());
+            let lent = Lengths {
+                waiting: WAITING,
+                ..Lengths::needed(self.both.limits(), &call)
+            };
+            if let Some((name, kind)) = self.step(Step::Call { call, lent })? {
+                tallies.damaged.count(name, kind, None);
+            }
+        }
+        self.both = both;
+        self.history.truncate(length);
         Ok(())
-    }
-
-    /// The words against the original's state, and against the words before the call.
-    fn compare(&mut self, is_unchanged: bool) -> Result<(), String> {
-        let limits = self.reference.limits();
-        let kept = if is_unchanged { 0 } else { limits.words() };
-        if self.words[kept..] != self.before[kept..] {
-            let changed = |place: &usize| self.words[*place] != self.before[*place];
-            let places: Vec<usize> = (kept..self.words.len()).filter(changed).collect();
-            return Err(format!("words that must stay are changed: {places:?}"));
-        }
-        if !is_unchanged {
-            self.state = words::state(&self.words, limits)
-                .map_err(|why| format!("the proved words hold no state: {why}"))?;
-            self.before[..kept].copy_from_slice(&self.words[..kept]);
-        }
-        if self.state != self.reference.state() {
-            return Err("the states differ".to_string());
-        }
-        Ok(())
-    }
-
-    /// The history of the scheduler, the difference at its end, and both states.
-    fn told(&mut self, difference: &str) -> String {
-        let history: Vec<String> = self.history.iter().map(Step::to_string).collect();
-        let proved = match words::state(&self.words, self.reference.limits()) {
-            Ok(state) => state.to_string(),
-            Err(why) => format!("none: {why}\n"),
-        };
-        format!(
-            "{}\n{difference}\nproved state\n{proved}original state\n{}",
-            history.join("\n"),
-            self.reference.state()
-        )
     }
 }
 
-/// Whether a slice begins with what must be written and is unused behind it. The words behind it
-/// below `cleared` may be 0 too.
-fn is_written(slice: &[u64], written: &[u64], cleared: usize) -> bool {
-    let mut rest = slice.iter().enumerate().skip(written.len());
-    slice.starts_with(written)
-        && rest.all(|(place, word)| *word == UNUSED || place < cleared && *word == 0)
-}
+/// A call's name, and what kind of answer it got.
+type Counted = (&'static str, Kind);

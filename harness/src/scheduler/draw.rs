@@ -1,15 +1,18 @@
 //! Random calls that mean something to the state they meet, with edges over-represented.
 mod arguments;
 mod lists;
+mod sites;
+mod timers;
 
 use super::state::State;
 use super::{Call, Limits};
 use crate::random::Random;
+use sites::{Kind, Sites};
 
 /// The bytes of an event, by which most keys are apart.
 const LAYOUT: u64 = 24;
 /// A prime above the number of keys.
-const STRIDE: usize = 7919;
+const STRIDE: usize = 10_007;
 const EDGES: [u64; 8] = [
     0,
     1,
@@ -24,10 +27,11 @@ const EDGES: [u64; 8] = [
 pub struct Draw<'a> {
     random: &'a Random,
     keys: Vec<u64>,
+    sites: Sites,
 }
 
 impl<'a> Draw<'a> {
-    /// Calls on about `size` keys.
+    /// Calls on about `size` keys of mutexes and events, and as many places of timers and of DPCs.
     pub fn new(random: &'a Random, size: u64) -> Self {
         let last = u64::MAX - LAYOUT * (size + 1);
         let base = random.pick(&[1, 4096, 4096, 4096, 1 << 32, last]);
@@ -35,25 +39,50 @@ impl<'a> Draw<'a> {
         if random.once_in(4) {
             keys.extend(EDGES);
         }
-        Self { random, keys }
+        let sites = Sites::new(random, size.max(3), base);
+        Self {
+            random,
+            keys,
+            sites,
+        }
     }
 
-    /// A call that adds a thread or an object. Rising indices go through all keys, in no order.
+    /// A call that adds a thread, an object or a DPC. Rising indices go through all keys and
+    /// places, in no order.
     pub fn addition(&self, index: usize, limits: Limits) -> Call {
-        if self.random.below(limits.threads + limits.objects) < limits.threads {
+        let random = self.random;
+        let part = random.below(limits.threads + limits.objects + limits.dpcs);
+        if part < limits.threads {
             return Call::CreateThread {
                 priority: self.good_priority(),
             };
         }
+        if part < limits.threads + limits.dpcs {
+            return Call::InitializeDpc {
+                location: self.good_location(Kind::Dpc, index),
+                routine: random.number(),
+                context: random.number(),
+            };
+        }
         let key = self.keys[index * STRIDE % self.keys.len()];
-        match self.random.below(3) {
+        match random.below(4) {
             0 => Call::InitializeMutex { key },
-            _ => self.initialize_event(key),
+            1 => self.initialize_event(key),
+            _ => Call::InitializeTimer {
+                location: self.good_location(Kind::Timer, index),
+                manual: random.once_in(2),
+            },
         }
     }
 
     pub fn call(&self, state: &State, limits: Limits) -> Call {
         let random = self.random;
+        if state.is_new() && random.once_in(2) {
+            return self.any_configure();
+        }
+        if random.once_in(2) {
+            return self.timer_call(state);
+        }
         if state.current.is_none() && random.below(5) < 3 {
             return self.onward(state);
         }
@@ -63,8 +92,9 @@ impl<'a> Draw<'a> {
                 priority: self.priority(),
                 limits: self.limits(limits),
             },
-            9..=14 => Call::Current,
-            15..=64 => Call::CreateThread {
+            9..=11 => Call::Current,
+            12..=16 => self.thread_read(state),
+            17..=64 => Call::CreateThread {
                 priority: self.priority(),
             },
             65..=109 => Call::Priority {
@@ -97,7 +127,7 @@ impl<'a> Draw<'a> {
                 key: self.event(state),
             },
             500..=509 => Call::EventStates {
-                position: self.position(state),
+                position: self.position(state.events.len()),
             },
             510..=529 => Call::RequireEventRelease(self.backing(state)),
             530..=549 => Call::RetireEventBacking(self.backing(state)),
@@ -107,7 +137,7 @@ impl<'a> Draw<'a> {
                 irql: self.irql(),
             },
             900..=949 => Call::AdvanceTo {
-                time: self.time(state),
+                time: self.advance(state),
             },
             _ => Call::Dispatch,
         }
@@ -115,7 +145,9 @@ impl<'a> Draw<'a> {
 
     /// A call that is likely to bring a scheduler on where no thread runs.
     fn onward(&self, state: &State) -> Call {
-        let soonest = state.waits().filter_map(|wait| wait.deadline).min();
+        let deadlines = state.waits().filter_map(|wait| wait.deadline);
+        let dues = state.inserted().map(|timer| timer.due);
+        let soonest = deadlines.chain(dues).min();
         match (self.random.below(8), soonest) {
             (0, _) => self.initialize_event(self.key()),
             (1, _) => Call::SetEvent {
@@ -123,12 +155,29 @@ impl<'a> Draw<'a> {
             },
             (2, Some(time)) => Call::AdvanceTo { time },
             (3, Some(_)) => Call::AdvanceTo {
-                time: self.time(state),
+                time: self.advance(state),
             },
             (2, None) => Call::CreateThread {
                 priority: self.good_priority(),
             },
             _ => Call::Dispatch,
+        }
+    }
+
+    /// What is read of a thread's wait only where it waits.
+    fn thread_read(&self, state: &State) -> Call {
+        let id = self.thread(state);
+        let waited = state.waited(id);
+        match self.random.below(4) {
+            0 => Call::Threads {
+                position: self.position(state.threads.len()),
+            },
+            1 => Call::Thread { id },
+            _ if state.waits_no_more(id) => Call::Thread { id },
+            _ => Call::WaitedObject {
+                id,
+                position: self.position(waited.map_or(0, |list| list.len() / 2)),
+            },
         }
     }
 

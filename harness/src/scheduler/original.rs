@@ -1,7 +1,12 @@
 //! The original's calls.
-use super::Call;
+mod timers;
+
 use super::answer::Answer;
-use emumee::scheduler::{Dispatch, Object, Scheduler, SchedulerError, WaitOutcome, WaitResult};
+use super::answer::thread::ThreadView;
+use super::{Call, view};
+use emumee::scheduler::{
+    Dispatch, Object, Scheduler, SchedulerError, ThreadState, WaitOutcome, WaitResult,
+};
 
 /// The objects of a wait, as the original takes them; nothing for a list that it cannot be given.
 pub fn objects(call: &Call) -> Option<Vec<Object>> {
@@ -40,6 +45,11 @@ pub fn original(
         Call::Priority { id, priority } => scheduler.priority(id, priority as u8).map(done),
         Call::YieldCurrent => scheduler.yield_current().map(done),
         Call::Terminate { status } => scheduler.terminate(status).map(done),
+        Call::Thread { id } => Ok(thread(scheduler, id)),
+        Call::Threads { position } => {
+            Ok(nth(scheduler.threads(), position).map_or(Answer::None, thread_view))
+        }
+        Call::WaitedObject { id, position } => Ok(waited_object(scheduler, id, position)),
         Call::InitializeMutex { key } => scheduler.initialize_mutex(key).map(done),
         Call::AdoptMutex { key, owned, owner } => {
             scheduler.adopt_mutex(key, owned.then_some(owner)).map(done)
@@ -60,11 +70,7 @@ pub fn original(
                 .ok()
                 .map(|(manual, signaled)| (key, manual, signaled)),
         )),
-        Call::EventStates { position } => {
-            Ok(event(usize::try_from(position).ok().and_then(|position| {
-                scheduler.event_states().nth(position)
-            })))
-        }
+        Call::EventStates { position } => Ok(event(nth(scheduler.event_states(), position))),
         Call::RequireEventRelease(b) => scheduler
             .require_event_release(b.base, b.size, b.layout)
             .map(done),
@@ -89,7 +95,28 @@ pub fn original(
             Dispatch::Deadlocked(waiting) => Answer::Deadlocked(waiting),
             Dispatch::Finished => Answer::Finished,
         }),
+        _ => timers::original(scheduler, call),
     }
+}
+
+fn nth<T>(mut all: impl Iterator<Item = T>, position: u64) -> Option<T> {
+    all.nth(usize::try_from(position).ok()?)
+}
+
+fn thread(scheduler: &Scheduler, id: u64) -> Answer {
+    scheduler.thread(id).map_or(Answer::None, thread_view)
+}
+
+fn thread_view(thread: &emumee::scheduler::Thread) -> Answer {
+    Answer::ThreadView(ThreadView::new(thread.id, &view::thread(thread)))
+}
+
+fn waited_object(scheduler: &Scheduler, id: u64, position: u64) -> Answer {
+    let objects = match scheduler.thread(id).map(|thread| &thread.state) {
+        Some(ThreadState::Waiting { objects, .. }) => objects.as_slice(),
+        _ => &[],
+    };
+    nth(objects.iter(), position).map_or(Answer::None, |object| Answer::Object(view::pair(*object)))
 }
 
 fn event(found: Option<(u64, bool, bool)>) -> Answer {

@@ -1,4 +1,6 @@
 //! The proved library's calls.
+mod timers;
+
 use super::Call;
 use crate::ffi::*;
 
@@ -7,6 +9,7 @@ pub struct Lent<'a> {
     pub words: &'a mut [u64],
     pub out: &'a mut [u64],
     pub waiting: &'a mut [u64],
+    pub bytes: &'a mut [u8],
 }
 
 /// A function that makes a call and answers 0 or the number of the refusal.
@@ -29,9 +32,14 @@ pub fn proved(lent: Lent, call: &Call) -> u64 {
             Call::Priority { id, priority } => scheduler_priority(w, n, id, priority, o, m),
             Call::YieldCurrent => scheduler_yield_current(w, n, o, m),
             Call::Terminate { status } => scheduler_terminate(w, n, status, o, m),
+            Call::Thread { id } => scheduler_thread(w, n, id, o, m),
+            Call::Threads { position } => scheduler_threads(w, n, position, o, m),
+            Call::WaitedObject { id, position } => {
+                scheduler_waited_object(w, n, id, position, o, m)
+            }
             Call::InitializeMutex { key } => scheduler_initialize_mutex(w, n, key, o, m),
             Call::AdoptMutex { key, owned, owner } => {
-                scheduler_adopt_mutex(w, n, key, owned.into(), owner, o, m)
+                scheduler_adopt_mutex(w, n, key, yes(owned, owner), owner, o, m)
             }
             Call::MutexOwner { key } => scheduler_mutex_owner(w, n, key, o, m),
             Call::MutexWaiters { key } => scheduler_mutex_waiters(w, n, key, o, m),
@@ -40,7 +48,10 @@ pub fn proved(lent: Lent, call: &Call) -> u64 {
                 key,
                 manual,
                 signaled,
-            } => scheduler_initialize_event(w, n, key, manual.into(), signaled.into(), o, m),
+            } => {
+                let (manual, signaled) = (yes(manual, key), yes(signaled, key / 8));
+                scheduler_initialize_event(w, n, key, manual, signaled, o, m)
+            }
             Call::SetEvent { key } => scheduler_set_event(w, n, key, o, m),
             Call::ResetEvent { key } => scheduler_reset_event(w, n, key, o, m),
             Call::EventState { key } => scheduler_event_state(w, n, key, o, m),
@@ -59,7 +70,8 @@ pub fn proved(lent: Lent, call: &Call) -> u64 {
                 irql,
             } => {
                 let (l, k) = (list.as_ptr(), list.len());
-                scheduler_wait(w, n, l, k, all.into(), timed.into(), deadline, irql, o, m)
+                let (all, timed) = (yes(all, deadline), yes(timed, deadline / 4));
+                scheduler_wait(w, n, l, k, all, timed, deadline, irql, o, m)
             }
             Call::DelayUntil { deadline, irql } => {
                 scheduler_delay_until(w, n, deadline, irql, o, m)
@@ -69,6 +81,16 @@ pub fn proved(lent: Lent, call: &Call) -> u64 {
                 let (l, k) = (lent.waiting.as_mut_ptr(), lent.waiting.len());
                 scheduler_dispatch(w, n, l, k, o, m)
             }
+            _ => timers::proved(lent, call),
         }
+    }
+}
+
+/// A truth value as a number: 0 for no, and any other for yes, by the number that comes with it.
+fn yes(flag: bool, beside: u64) -> u64 {
+    let numbers = [1, 1, 2, 1 << 32, u64::MAX];
+    match flag {
+        false => 0,
+        true => numbers[beside as usize % numbers.len()],
     }
 }

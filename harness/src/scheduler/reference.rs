@@ -1,6 +1,6 @@
 //! The original scheduler, and what must be answered: its answer, or document 01's where the
 //! original has no such call or limit.
-use super::answer::{self, Answer};
+use super::answer::{self, Answer, IMAGE_BYTES};
 use super::original::{objects, original};
 use super::refusals::{self, FORM, FULL, LIST, NO_CURRENT, PRIORITY};
 use super::state::State;
@@ -15,14 +15,16 @@ pub struct Lengths {
     pub words: usize,
     pub out: usize,
     pub waiting: usize,
+    pub bytes: usize,
 }
 
 impl Lengths {
-    pub fn needed(limits: Limits) -> Self {
+    pub fn needed(limits: Limits, call: &Call) -> Self {
         Self {
             words: limits.words(),
-            out: answer::WORDS,
+            out: call.out_words(),
             waiting: limits.threads as usize,
+            bytes: IMAGE_BYTES,
         }
     }
 }
@@ -44,6 +46,15 @@ impl Reference {
         }
     }
 
+    /// The original with a state that calls need not lead to.
+    pub fn with_state(state: &State, limits: Limits) -> Self {
+        Self {
+            scheduler: view::scheduler(state),
+            limits,
+            message: None,
+        }
+    }
+
     pub fn limits(&self) -> Limits {
         self.limits
     }
@@ -60,8 +71,8 @@ impl Reference {
         view::state(&mut self.scheduler)
     }
 
-    pub fn set_sequence(&mut self, sequence: u64) {
-        *self.scheduler.sequence_mut() = sequence;
+    pub fn scheduler_mut(&mut self) -> &mut Scheduler {
+        &mut self.scheduler
     }
 
     /// What a call with slices of these lengths must answer. A panic of the original, or a message
@@ -76,10 +87,11 @@ impl Reference {
             Call::Open { priority, limits } => return Ok(self.open(priority, limits, lent)),
             _ => {}
         }
-        let threads = self.limits.threads as usize;
-        if lent.out < answer::WORDS
-            || lent.words < self.limits.words()
-            || matches!(call, Call::Dispatch) && lent.waiting < threads
+        let needed = Lengths::needed(self.limits, call);
+        if lent.out < needed.out
+            || lent.words < needed.words
+            || matches!(call, Call::Dispatch) && lent.waiting < needed.waiting
+            || call.answers_image() && lent.bytes < needed.bytes
         {
             return Ok(Answer::Refused(FORM));
         }
@@ -130,6 +142,12 @@ impl Reference {
             Call::InitializeMutex { key } | Call::InitializeEvent { key, .. } => {
                 self.has_no_room(key).then_some(FULL)
             }
+            Call::InitializeTimer { location, .. } => {
+                self.has_no_room(location.address).then_some(FULL)
+            }
+            Call::InitializeDpc { location, .. } => {
+                self.has_no_dpc_room(location.address).then_some(FULL)
+            }
             Call::AdoptMutex { key, owned, owner } if !owned || self.is_live(owner) => {
                 self.has_no_room(key).then_some(FULL)
             }
@@ -144,12 +162,26 @@ impl Reference {
     /// Whether the key is new, and an object more passes a limit that the original does not have.
     fn has_no_room(&mut self, key: u64) -> bool {
         let events = self.scheduler.event_states().count();
-        let is_event = self.scheduler.event_state(key).is_ok();
-        let mutexes = self.scheduler.mutexes_mut();
+        let timers = self.scheduler.timers().count();
+        let objects = events + timers + self.scheduler.mutexes_mut().len();
         self.limits.objects < Limits::MOST.objects
-            && (events + mutexes.len()) as u64 >= self.limits.objects
-            && !is_event
-            && !mutexes.contains_key(&key)
+            && objects as u64 >= self.limits.objects
+            && !self.is_known(key)
+    }
+
+    /// The same of a DPC more.
+    fn has_no_dpc_room(&mut self, address: u64) -> bool {
+        self.limits.dpcs < Limits::MOST.dpcs
+            && self.scheduler.dpcs().count() as u64 >= self.limits.dpcs
+            && !self.is_known(address)
+    }
+
+    /// Whether an object of any kind or a DPC has the key.
+    fn is_known(&self, key: u64) -> bool {
+        self.scheduler.event_state(key).is_ok()
+            || self.scheduler.mutex_owner(key).is_ok()
+            || self.scheduler.timer(key).is_ok()
+            || self.scheduler.dpc(key).is_ok()
     }
 
     fn is_live(&self, id: u64) -> bool {

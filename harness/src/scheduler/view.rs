@@ -1,6 +1,11 @@
-//! The original's state. `ready_mut` and its like come from the stand-in for `Serialize`.
-use super::state::{Ended, Event, State, Status, Thread, Wait};
-use emumee::scheduler::{Object, Scheduler, ThreadState, WaitResult};
+//! The original's state, and an original with a state. `ready_mut` and its like come from the
+//! stand-in for `Serialize`.
+mod inverse;
+
+use super::state::{Counters, Dpc, Ended, Event, State, Status, Thread, Timer, Wait};
+use emumee::scheduler::{DpcPolicy, Object, Scheduler, ThreadState, WaitResult};
+
+pub use inverse::scheduler;
 
 pub fn state(scheduler: &mut Scheduler) -> State {
     let threads: Vec<Thread> = scheduler.threads().map(thread).collect();
@@ -37,10 +42,70 @@ pub fn state(scheduler: &mut Scheduler) -> State {
                 signaled,
             })
             .collect(),
+        timers: scheduler.timers().map(timer).collect(),
+        dpcs: scheduler.dpcs().map(dpc).collect(),
+        queue: scheduler.queued_dpcs().collect(),
+        active: scheduler.active_dpc().map(|dpc| dpc.address),
+        next: scheduler
+            .next_dpc()
+            .expect("a queue of queued DPCs")
+            .map(|dpc| dpc.address),
+        policy: policy(scheduler),
+        counters: counters(scheduler),
+        timer_initializations: scheduler.timer_initializations(),
+        dpc_initializations: scheduler.dpc_initializations(),
     }
 }
 
-fn thread(thread: &emumee::scheduler::Thread) -> Thread {
+pub fn timer(timer: &emumee::scheduler::Timer) -> Timer {
+    Timer {
+        address: timer.address,
+        architecture: timer.architecture,
+        backing: timer.backing,
+        manual: timer.manual_reset,
+        signaled: timer.signaled,
+        inserted: timer.inserted,
+        due: timer.due,
+        period: timer.period_ms.into(),
+        dpc: timer.dpc,
+        absolute: timer.absolute,
+        arm: timer.arm_generation,
+        initialization: timer.initialization,
+    }
+}
+
+pub fn dpc(dpc: &emumee::scheduler::Dpc) -> Dpc {
+    Dpc {
+        address: dpc.address,
+        architecture: dpc.architecture,
+        backing: dpc.backing,
+        routine: dpc.routine,
+        context: dpc.context,
+        phase: dpc.phase.clone(),
+    }
+}
+
+pub fn policy(scheduler: &Scheduler) -> Option<[u64; 2]> {
+    match scheduler.dpc_policy() {
+        DpcPolicy::Unselected => None,
+        DpcPolicy::LegacyMetadataOnly => unreachable!("chosen by tests of the original alone"),
+        DpcPolicy::Cpu0Dispatch { timer_arguments } => Some(timer_arguments),
+    }
+}
+
+pub fn counters(scheduler: &Scheduler) -> Counters {
+    let counters = scheduler.dpc_counters();
+    Counters {
+        accepted: counters.accepted,
+        duplicates: counters.duplicates,
+        removed: counters.removed,
+        started: counters.started,
+        returned: counters.returned,
+        restored: counters.restored,
+    }
+}
+
+pub fn thread(thread: &emumee::scheduler::Thread) -> Thread {
     Thread {
         priority: thread.priority.into(),
         status: match &thread.state {
@@ -66,7 +131,7 @@ fn thread(thread: &emumee::scheduler::Thread) -> Thread {
     }
 }
 
-fn pair(object: Object) -> [u64; 2] {
+pub fn pair(object: Object) -> [u64; 2] {
     match object {
         Object::Mutex(key) => [0, key],
         Object::Event(key) => [1, key],

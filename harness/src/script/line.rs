@@ -2,7 +2,9 @@
 use crate::clock;
 use crate::scheduler::answer::Answer;
 use crate::scheduler::original::objects;
-use crate::scheduler::{Backing, Call};
+use crate::scheduler::{Backing, Call, Location, Span};
+use emumee::pe::Architecture;
+use emumee::scheduler::TimerBacking;
 
 /// The line of a call; nothing for one that has no line, or that a line cannot hold.
 pub fn scheduler(call: &Call) -> Option<String> {
@@ -35,8 +37,74 @@ pub fn scheduler(call: &Call) -> Option<String> {
         Call::YieldCurrent => "yield".to_string(),
         Call::Current => "current".to_string(),
         Call::Dispatch => "dispatch".to_string(),
+        _ => return timers(call),
+    })
+}
+
+/// The line of a call on timers or DPCs.
+fn timers(call: &Call) -> Option<String> {
+    let name = call.name();
+    Some(match *call {
+        Call::InitializeTimer { location, manual } => {
+            format!("{name} {} {}", place(location), u8::from(manual))
+        }
+        Call::SetTimer {
+            address,
+            due,
+            absolute,
+            period,
+            dpc,
+        } => format!(
+            "{name} {address} {due} {} {period} {dpc}",
+            u8::from(absolute)
+        ),
+        Call::InitializeDpc {
+            location,
+            routine,
+            context,
+        } => format!("{name} {} {routine} {context}", place(location)),
+        Call::ConfigureDpcDispatch {
+            arguments: [first, second],
+        } => format!("{name} {first} {second}"),
+        Call::InsertQueueDpc {
+            address,
+            arguments: [first, second],
+        } => format!("{name} {address} {first} {second}"),
+        Call::CancelTimer { address }
+        | Call::RemoveQueueDpc { address }
+        | Call::StartDpc { address } => format!("{name} {address}"),
+        Call::ReturnedDpc { address, sequence } | Call::RestoredDpc { address, sequence } => {
+            format!("{name} {address} {sequence}")
+        }
+        Call::RequireTimerRelease(Span { address, size })
+        | Call::RetireTimerBacking(Span { address, size })
+        | Call::TimerReadOverlap(Span { address, size })
+        | Call::TimerMetadataOverlap(Span { address, size }) => format!("{name} {address} {size}"),
+        Call::QueuedDpcs { position } => format!("{name} {position}"),
+        Call::TimerInitializations | Call::DpcInitializations => name.to_string(),
         _ => return None,
     })
+}
+
+fn place(location: Location) -> String {
+    let Location {
+        address,
+        architecture,
+        backing,
+    } = location;
+    let architecture = match architecture {
+        Architecture::X64 => "x64",
+        Architecture::X86 => "x86",
+    };
+    let backing = match backing {
+        TimerBacking::Image { base, size } => format!("image {base} {size}"),
+        TimerBacking::NonpagedPool {
+            base,
+            requested,
+            mapped,
+        } => format!("pool {base} {requested} {mapped}"),
+    };
+    format!("{address} {architecture} {backing}")
 }
 
 /// A list of none, of odd length or with another kind has no line.
@@ -87,7 +155,8 @@ pub fn scheduler_answer(call: &Call, answer: &Answer) -> String {
             format!("deadlocked {}", waiting.join(" "))
         }
         (_, Answer::Finished) => "finished".to_string(),
-        (_, Answer::Event { .. }) => unreachable!("a record has no line"),
+        (_, Answer::Work(work)) => work.sequence.to_string(),
+        (_, _) => unreachable!("a record has no line"),
     }
 }
 

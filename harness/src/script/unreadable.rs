@@ -1,7 +1,7 @@
 //! Lines that cannot be read.
 use crate::random::Random;
 
-const LINES: [&str; 28] = [
+const LINES: [&str; 66] = [
     "resume 2",
     "open",
     "create",
@@ -30,6 +30,44 @@ const LINES: [&str; 28] = [
     "clock",
     "clock stop",
     "clock new 0 0 0",
+    "initialize_timer 1048576 x64 image 1048576 64",
+    "initialize_timer 1048576 x64 image 1048576 64 2",
+    "initialize_timer 1048576 x64 image 1048576 64 64 0",
+    "initialize_timer 1048576 arm image 1048576 64 0",
+    "initialize_timer 1048576 x64 stack 1048576 64 0",
+    "initialize_timer 1048576 x64 pool 1048576 64 0",
+    "initialize_timer 1048576 image 1048576 64 0",
+    "initialize_dpc 1048640 x64 image 1048576 128 1",
+    "initialize_dpc 1048640 x86 pool 1048576 128 1 1",
+    "initialize_dpc 1048640 x64 image 1048576 128 1 1 0",
+    "set_timer 1048576 10 0 0",
+    "set_timer 1048576 10 2 0 0",
+    "set_timer 1048576 -10 0 0 0",
+    "set_timer 1048576 10 0 - 0",
+    "set_timer_signed 1048576 -10 0 0",
+    "cancel_timer",
+    "require_timer_release 1048576",
+    "retire_timer_backing 1048576 64 8",
+    "configure_dpc_dispatch 1",
+    "configure_dpc_dispatch 1 2 3",
+    "insert_queue_dpc 1048640 1",
+    "remove_queue_dpc",
+    "start_dpc 1048640 1",
+    "returned_dpc 1048640",
+    "restored_dpc 1048640 one",
+    "queued_dpcs",
+    "timer_initializations 1",
+    "dpc_initializations 0",
+    "timer_read_overlap 1048576",
+    "timer_metadata_overlap 1048576 64 8",
+    "timer 1048576",
+    "timers 0",
+    "dpc 1048640",
+    "active_dpc",
+    "next_dpc",
+    "dpc_policy",
+    "dpc_counters",
+    "pending_timer_dpc",
 ];
 
 /// The most bytes of a line.

@@ -1,10 +1,7 @@
-//! What a comparison tells: counts, and the history of a scheduler.
-use crate::scheduler::Call;
-use crate::scheduler::answer::Answer;
-use crate::scheduler::reference::Lengths;
+//! What a comparison tells: counts.
 use crate::scheduler::refusals::TABLE;
 use crate::tally::Tally;
-use std::collections::BTreeSet;
+use std::collections::{BTreeMap, BTreeSet};
 use std::fmt;
 
 /// The calls that were compared, and those made on words of which one was changed.
@@ -12,6 +9,9 @@ use std::fmt;
 pub struct Tallies {
     pub compared: Tally,
     pub damaged: Tally,
+    /// How many times the changed words were in form, and which clause they broke.
+    pub in_form: u64,
+    pub faults: BTreeMap<&'static str, u64>,
     /// What the original said, by call.
     pub messages: BTreeSet<(&'static str, &'static str)>,
 }
@@ -26,23 +26,18 @@ impl fmt::Display for Tallies {
                 }
             }
         }
-        write!(f, "with a word changed\n{}", self.damaged)
-    }
-}
-
-/// What happened to a scheduler.
-pub enum Step {
-    Call { call: Call, lent: Lengths },
-    Answer(Answer),
-    Sequence(u64),
-}
-
-impl fmt::Display for Step {
-    fn fmt(&self, f: &mut fmt::Formatter<'_>) -> fmt::Result {
-        match self {
-            Self::Call { call, lent } => write!(f, "{call:?}, {lent:?}"),
-            Self::Answer(answer) => write!(f, "    answered {answer:?}"),
-            Self::Sequence(sequence) => write!(f, "sequence put to {sequence}"),
-        }
+        let out: u64 = self.faults.values().sum();
+        writeln!(
+            f,
+            "with a word changed, {} times in form, {out} times not",
+            self.in_form
+        )?;
+        let faults: Vec<String> = self
+            .faults
+            .iter()
+            .map(|(fault, count)| format!("{fault}: {count}"))
+            .collect();
+        writeln!(f, "the first clause broken, {}", faults.join(", "))?;
+        write!(f, "{}", self.damaged)
     }
 }

@@ -7,10 +7,15 @@ pub struct Scene {
     pub keys: u64,
     /// How many calls that add a thread or an object come first.
     pub additions: usize,
+    /// How many timers are set then.
+    pub armings: usize,
     pub calls: u64,
-    /// The call before which the wait sequence is put to its end.
-    pub end_of_sequence: Option<u64>,
-    /// A word is changed after one call in as many.
+    /// Whether the policy is chosen at the start.
+    pub policy: bool,
+    /// The call before which a number is put to its end.
+    pub put: Option<u64>,
+    /// Everything is read after one call in as many, and a word changed.
+    pub survey: u64,
     pub damage: u64,
 }
 
@@ -18,9 +23,9 @@ impl Scene {
     pub fn new(random: &Random) -> Self {
         let calls = 1 + random.below(300);
         let (limits, keys, additions) = match random.below(1000) {
-            0 => (Limits::MOST, 4600, 4500),
-            1..=5 => (Limits::MOST, 100, random.pick(&[0, 400, 4000])),
-            6..=25 => (Limits::new(256, 300, 0), 100, random.pick(&[0, 100, 700])),
+            0 if random.once_in(2) => (Limits::MOST, 9500, 9500),
+            0..=5 => (Limits::MOST, 100, random.pick(&[0, 400, 4000])),
+            6..=25 => (Limits::new(256, 300, 60), 100, random.pick(&[0, 100, 700])),
             26..=125 => (Limits::new(64, 80, 16), 90, random.pick(&[0, 20, 200])),
             126..=425 => (
                 Limits::new(16, 64, 64),
@@ -44,8 +49,11 @@ impl Scene {
             limits,
             keys,
             additions,
+            armings: random.pick(&[0, 0, additions / 4, additions / 2]).min(300),
             calls,
-            end_of_sequence: random.once_in(8).then(|| random.below(calls)),
+            policy: random.below(8) < 6,
+            put: random.once_in(3).then(|| random.below(calls)),
+            survey: 300,
             damage: if limits.words() < 20_000 { 8 } else { 200 },
         }
     }

@@ -1,6 +1,6 @@
 //! Arguments around what the state holds, and edges.
 use super::{Draw, EDGES, LAYOUT};
-use crate::scheduler::state::{State, Status};
+use crate::scheduler::state::State;
 use crate::scheduler::{Backing, Limits};
 
 impl Draw<'_> {
@@ -82,25 +82,23 @@ impl Draw<'_> {
     }
 
     /// A key of the kind that some thread waits for.
-    fn waited(&self, state: &State, kind: u64) -> Option<u64> {
+    pub(super) fn waited(&self, state: &State, kind: u64) -> Option<u64> {
         let id = state.waiters.get(self.below(state.waiters.len())?)?;
-        let Status::Waiting(wait) = &state.threads[*id as usize - 1].status else {
-            return None;
-        };
-        let (pairs, _) = wait.list.as_chunks();
+        let (pairs, _) = state.waited(*id)?.as_chunks();
         let [found, key] = pairs[self.below(pairs.len())?];
         (found == kind).then_some(key)
     }
 
-    fn below(&self, end: usize) -> Option<usize> {
+    pub(super) fn below(&self, end: usize) -> Option<usize> {
         (end > 0).then(|| self.random.below(end as u64) as usize)
     }
 
-    pub(super) fn position(&self, state: &State) -> u64 {
-        let events = state.events.len() as u64;
+    /// A position among as many, or behind the last.
+    pub(super) fn position(&self, count: usize) -> u64 {
+        let count = count as u64;
         match self.random.below(8) {
-            0 => self.random.pick(&[events, events + 1, 1 << 32, u64::MAX]),
-            _ => self.random.below(events + 1),
+            0 => self.random.pick(&[count, count + 1, 1 << 32, u64::MAX]),
+            _ => self.random.below(count + 1),
         }
     }
 

@@ -16,7 +16,7 @@ impl Draw<'_> {
         };
         let mut pairs = self.known(state, wanted);
         match random.below(16) {
-            0 => self.spoil(&mut pairs),
+            0 => self.spoil(state, &mut pairs),
             1 => pairs.push([random.below(4), self.key()]),
             _ => {}
         }
@@ -43,6 +43,7 @@ impl Draw<'_> {
         }
         let mutexes = state.mutexes.iter().map(|(key, _)| [0, *key]);
         let events = state.events.iter().map(|event| [1, event.key]);
+        let timers = state.timers.iter().map(|timer| [2, timer.address]);
         let threads = (1..=state.threads.len() as u64).map(|id| [3, id]);
         let own = |[kind, key]: &[u64; 2]| {
             let owned = |(known, owner): &(u64, Option<u64>)| {
@@ -50,7 +51,7 @@ impl Draw<'_> {
             };
             *kind == 0 && state.mutexes.iter().any(owned)
         };
-        let mut pairs: Vec<[u64; 2]> = mutexes.chain(events).chain(threads).collect();
+        let mut pairs: Vec<[u64; 2]> = mutexes.chain(events).chain(timers).chain(threads).collect();
         let wanted = wanted.min(pairs.len());
         for place in 0..wanted {
             let other = place + random.below((pairs.len() - place) as u64) as usize;
@@ -65,20 +66,21 @@ impl Draw<'_> {
 
     fn one(&self, state: &State) -> [u64; 2] {
         let random = self.random;
-        match random.below(8) {
+        match random.below(12) {
             0..=3 if !state.events.is_empty() => [1, random.pick(&state.events).key],
+            8..=11 if !state.timers.is_empty() => [2, random.pick(&state.timers).address],
             4..=6 if !state.mutexes.is_empty() => [0, random.pick(&state.mutexes).0],
             _ => [3, self.thread(state)],
         }
     }
 
     /// A pair twice, or one of no object.
-    fn spoil(&self, pairs: &mut Vec<[u64; 2]>) {
+    fn spoil(&self, state: &State, pairs: &mut Vec<[u64; 2]>) {
         let random = self.random;
         let pair = match random.below(4) {
             0 if !pairs.is_empty() => random.pick(pairs),
             1 => [random.pick(&[4, 5, 1 << 32, u64::MAX]), self.key()],
-            2 => [2, self.key()],
+            2 => [2, self.timer(state)],
             _ => [random.below(4), random.pick(&EDGES)],
         };
         let place = random.below(pairs.len() as u64 + 1) as usize;

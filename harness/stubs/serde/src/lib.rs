@@ -11,10 +11,20 @@ const BESIDE: [(&str, &str, Fields); 1] = [(
     "Thread",
     "Scheduler",
     &[
+        ("threads", "BTreeMap<ThreadId, Thread>"),
         ("ready", "BTreeMap<u8, VecDeque<ThreadId>>"),
+        ("current", "Option<ThreadId>"),
+        ("next_thread", "ThreadId"),
         ("sequence", "u64"),
         ("mutexes", "BTreeMap<u64, Option<ThreadId>>"),
         ("now", "u64"),
+        ("timers", "BTreeMap<u64, Timer>"),
+        ("dpcs", "BTreeMap<u64, Dpc>"),
+        ("timer_initializations", "u64"),
+        ("dpc_initializations", "u64"),
+        ("dpc_policy", "DpcPolicy"),
+        ("dpc_queue", "VecDeque<u64>"),
+        ("dpc_counters", "DpcCounters"),
     ],
 )];
 
