@@ -24,7 +24,7 @@ use Rattle.model.specs.Step.{refusal, effect, step, eventSet, timerSet, 
 use Rattle.model.specs.Answer.{Answer, gives, Flag, Refused, Satisfied, Timeout, Blocked, Done, Outcome}
 use Rattle.model.specs.Call.{Call, SetEvent, SetTimer, CancelTimer, InsertQueueDpc, RemoveQueueDpc, Wait}
 use Rattle.model.specs.Valid.{Valid}
-use Rattle.model.specs.Wdk.{wasSignaled, inTimerQueue, inDpcQueue, isSignaled, signaledNow, TakenBy, WaitAny, WaitAll}
+use Rattle.model.specs.Wdk.{wasSignaled, inTimerQueue, inDpcQueue, isSignaled, signaledNow, afterWait, TakenBy, WaitAny, WaitAll}
 use Rattle.model.proofs.ListLaws.{not-both, last-own, out-own, neither, any-false, any-at}
 use Rattle.model.proofs.TableLaws.{some-same, none-some, found, find-put-own, find-put-other}
 use Rattle.model.proofs.RowLaws.{passes, holds, there, same-named}
@@ -192,11 +192,24 @@ taken-kind id (mutex m) = refl
 taken-kind id (event e) = refl
 taken-kind id (timer t) = refl
 
+-- taking is what the pages say of waiting
+taken-same : (id : ℕ) (o : Object) → takenBy id o ≡ afterWait id o
+taken-same id (mutex m) = refl
+taken-same id (event e) = refl
+taken-same id (timer t) = refl
+
+-- the object has been taken, as the log says it
+abbrev Takes : ℕ → List Object → List Object → Named → Type 0
+Takes id before after n = (o : Object) → namedIn before n ≡ some o → objectAt after (n .key) ≡ some (takenBy id o)
+
+takes-taken : (id : ℕ) (before after : List Object) (n : Named) → Takes id before after n → TakenBy id before after n
+takes-taken id before after n h o e = h o e ∙ ap (λ (x : Object). some x) (taken-same id o)
+
 module _ (id : ℕ) where
   take-is : (l : List Object) (n : Named) (o : Object) → namedIn l n ≡ some o → take id l n ≡ putObject (takenBy id o) l
   take-is l n o e = ap (λ (a : Option Object). given a l (λ x. putObject (takenBy id x) l)) e
 
-  take-own : (l : List Object) (n : Named) → TakenBy id l (take id l n) n
+  take-own : (l : List Object) (n : Named) → Takes id l (take id l n) n
   take-own l n o e =
       let f = kind-found (n .kind) (objectAt l (n .key)) o e in
       let k : n .key ≡ keyOf (takenBy id o) = sym (taken-key id o ∙ found keyOf l (n .key) o (f .0) .1) in
@@ -224,7 +237,7 @@ module _ (id : ℕ) where
     | no q ↦ take-other l n k q ∙ f
   ]) (λ m a. h m (inr a))
 
-  every-taken : (l : List Object) (ns : List Named) → hasDuplicate ns ≡ false → (n : Named) → Mem n ns → TakenBy id l (takeEvery id l ns) n
+  every-taken : (l : List Object) (ns : List Named) → hasDuplicate ns ≡ false → (n : Named) → Mem n ns → Takes id l (takeEvery id l ns) n
   every-taken l [] e n m o f = absurd m
   every-taken l (x ∷ xs) e n m o f = go m (every-taken (take id l x) xs (d .1) n)
     where
@@ -235,7 +248,7 @@ module _ (id : ℕ) where
       differs : (y : Named) → Mem y xs → y .key ≡ x .key → y .kind ≡ x .kind → ⊥
       differs y a p q = not-both (sym (same-named y x q p) ∙ any-false (λ z. sameNamed z x) xs (d .0) y a)
 
-      go : (n ≡ x) ⊎ Mem n xs → (Mem n xs → TakenBy id (take id l x) (takeEvery id (take id l x) xs) n) → objectAt (takeEvery id (take id l x) xs) (n .key) ≡ some (takenBy id o)
+      go : (n ≡ x) ⊎ Mem n xs → (Mem n xs → Takes id (take id l x) (takeEvery id (take id l x) xs) n) → objectAt (takeEvery id (take id l x) xs) (n .key) ≡ some (takenBy id o)
       go (inl p) ih =
           let g : namedIn l x ≡ some o = ap (namedIn l) (sym p) ∙ f in
           let k = kind-found (x .kind) (objectAt l (x .key)) o g in
@@ -306,7 +319,7 @@ wait-any-reports s l deadline irql e m a t =
           (record {
             which = n;
             lowest = record { at = f .0; signaled = signaled-is s n ∙ f .1; lowest = λ j y h q. signaled-is s y ∙ f .2 j y h q };
-            taken = take-own (d .current) (d .objects) n;
+            taken = takes-taken (d .current) (d .objects) (take (d .current) (d .objects) n) n (take-own (d .current) (d .objects) n);
             alone = λ k h. take-other (d .current) (d .objects) n k h;
           }),
     )
@@ -323,7 +336,7 @@ wait-all-reports s l deadline irql e h =
       subst (λ (o : Outcome). WaitAll s (o .state) (d .current) ns) (sym (met-is s l true deadline irql e z))
           (record {
             every = h;
-            taken = λ n m. every-taken (d .current) (d .objects) ns (no-duplicate s l true deadline irql e) n m;
+            taken = λ n m. takes-taken (d .current) (d .objects) (takeEvery (d .current) (d .objects) ns) n (every-taken (d .current) (d .objects) ns (no-duplicate s l true deadline irql e) n m);
             others = λ k q. every-other (d .current) (d .objects) ns k q;
           }),
     )

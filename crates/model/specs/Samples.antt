@@ -1,4 +1,4 @@
--- "Bench samples" of document 01 as one list of tests, and its example script as a list of calls.
+-- "Bench samples" of document 01 as one list of tests; its example script, and its readings to rule out, as lists of calls.
 use Prim.Native.Nat.{ℕ, zero, suc, _+_, _-_, _*_, _^_}
 use mathlib.Core.List.{List, [], _∷_, _++_}
 use mathlib.Core.Bool.{Bool, true, false, _&&_}
@@ -11,8 +11,8 @@ use Rattle.clock.specs.Samples.{p7, p8}
 use Rattle.model.specs.State.{State}
 use Rattle.model.specs.Answer.{Answer, Refused, Done, None, ThreadNumber, Flag, Number, Satisfied, Timeout, Blocked, Run, Deadlocked, Finished, ThreadIs, ObjectIs, EventIs, TimerIs, DpcIs, WorkIs, PolicyIs, CountersAre, TimerImageIs, DpcImageIs}
 use Rattle.model.specs.Answer as answer
-use Rattle.model.specs.Call.{Call, Open, CreateThread, InitializeEvent, Wait, DelayUntil, YieldCurrent, AdvanceTo, Dispatch, SetEvent, InitializeTimer, SetTimer, SetTimerSigned, Reads, TimerAt}
-use Rattle.model.specs.Step.{step, after, opened}
+use Rattle.model.specs.Call.{Call, Open, CreateThread, InitializeEvent, Wait, DelayUntil, YieldCurrent, AdvanceTo, Dispatch, SetEvent, InitializeTimer, InitializeDpc, SetTimer, SetTimerSigned, CancelTimer, ConfigureDpcDispatch, Reads, TimerAt}
+use Rattle.model.specs.Step.{step, after, answers, opened}
 
 -- ---- tests of an answer, by a code that tells the four apart that the samples ask for: refused, timed out, blocked, a timer's due
 
@@ -129,3 +129,43 @@ script =
 -- what it prints
 unfoldable pub printed : List Answer
 printed = Done ∷ Done ∷ ThreadNumber 2 ∷ Blocked ∷ Run 2 ∷ Flag false ∷ Done ∷ Run 2 ∷ []
+
+-- ---- "Readings to rule out", but for the clock's: a state each, and what a call then answers
+
+-- "Refusing a wait at IRQL 2 that is granted."
+unfoldable pub grantedAt2 : List Call
+grantedAt2 = InitializeEvent 4096 true true ∷ Wait (1 ∷ 4096 ∷ []) false none 2 ∷ []
+
+-- "Running timeouts before object wakes.": a timer and the deadline of the thread that waits for it come at one time; the thread
+-- takes the timer, so that thread 2 finds it unsignaled and times out
+unfoldable pub wakesFirst : List Call
+wakesFirst =
+    InitializeTimer 4096 X64 (Image 4096 64) false
+    ∷ CreateThread 9
+    ∷ SetTimer 4096 100 true (pos 0) 0
+    ∷ Wait (2 ∷ 4096 ∷ []) false (some 100) 0
+    ∷ Dispatch 16
+    ∷ AdvanceTo 100
+    ∷ Wait (2 ∷ 4096 ∷ []) false (some 100) 0
+    ∷ []
+
+-- "Ending a periodic cancel with 'no' because its DPC is queued."
+unfoldable pub cancelsQueued : List Call
+cancelsQueued =
+    ConfigureDpcDispatch 1 2
+    ∷ InitializeTimer 4096 X64 (Image 4096 64) false
+    ∷ InitializeDpc 8192 X64 (Image 8192 64) 0 0
+    ∷ SetTimer 4096 100 true (pos 1) 8192
+    ∷ AdvanceTo 100
+    ∷ CancelTimer 4096
+    ∷ []
+
+unfoldable pub readings : List (List Answer)
+readings = answers grantedAt2 begun ∷ answers wakesFirst begun ∷ answers cancelsQueued begun ∷ []
+
+unfoldable pub ruled : List (List Answer)
+ruled =
+    (Done ∷ Satisfied 0 ∷ [])
+    ∷ (Done ∷ ThreadNumber 2 ∷ Flag false ∷ Blocked ∷ Run 2 ∷ Done ∷ Timeout ∷ [])
+    ∷ (Done ∷ Done ∷ Done ∷ Flag false ∷ Done ∷ Flag true ∷ [])
+    ∷ []

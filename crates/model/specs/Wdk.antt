@@ -9,7 +9,7 @@ use Rattle.images.specs.declared.Timer.{Timer}
 use Rattle.model.specs.Lists.{Mem, member, nth, given}
 use Rattle.model.specs.State.{State, Named, Event, Object, mutex, event, timer}
 use Rattle.model.specs.Threads.{isThread, hasExited, statusOf}
-use Rattle.model.specs.Waits.{objectAt, eventAt, timerAt, namedIn, takenBy}
+use Rattle.model.specs.Waits.{objectAt, eventAt, timerAt, namedIn}
 
 -- KeSetEvent: whether the event was signaled before
 abbrev pub wasSignaled : State → ℕ → Bool
@@ -46,9 +46,30 @@ pub record LowestSignaled (s : State) (ns : List Named) (i : ℕ) (n : Named) : 
   pub signaled : signaledNow s n ≡ true
   pub lowest : (j : ℕ) (m : Named) → j < i → nth ns j ≡ some m → signaledNow s m ≡ false
 
--- the thread has taken the object: it owns the mutex, and what is not manual is signaled no more; a thread that ended stays so
+-- what waiting does to an object that is signaled: the thread owns a mutex; an event or a timer for synchronization is signaled no
+-- more, and one for notification stays as it is
+abbrev pub afterWait : ℕ → Object → Object
+afterWait id (mutex m) = mutex (record { key = m .key; owner = id })
+afterWait id (event e) = event (record { key = e .key; manual = e .manual; signaled = cond (e .manual) (e .signaled) false })
+afterWait id (timer t) =
+    timer (record {
+      address = t .address;
+      architecture = t .architecture;
+      backing = t .backing;
+      «manual_reset» = t .«manual_reset»;
+      signaled = cond (t .«manual_reset») (t .signaled) false;
+      inserted = t .inserted;
+      due = t .due;
+      «period_ms» = t .«period_ms»;
+      dpc = t .dpc;
+      absolute = t .absolute;
+      «arm_generation» = t .«arm_generation»;
+      initialization = t .initialization;
+    })
+
+-- the thread has taken the object; a thread that ended stays so
 abbrev pub TakenBy : ℕ → List Object → List Object → Named → Type 0
-TakenBy id before after n = (o : Object) → namedIn before n ≡ some o → objectAt after (n .key) ≡ some (takenBy id o)
+TakenBy id before after n = (o : Object) → namedIn before n ≡ some o → objectAt after (n .key) ≡ some (afterWait id o)
 
 -- "WaitAny: the lowest index among the objects that are signaled, which alone is taken"
 pub record WaitAny (before after : State) (id : ℕ) (ns : List Named) (i : ℕ) : Type 0 where
