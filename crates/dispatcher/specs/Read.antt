@@ -5,13 +5,24 @@ use mathlib.Core.List.{List}
 use lib.ListN.{getD}
 use lib.Dec.{leb}
 use Rattle.words.specs.Layout.{threadAt}
-use Rattle.threads.specs.Thread.{threadOf, known, allOf, countOf, placesAt}
+use Rattle.threads.specs.Thread.{threadOf, known, countOf, placesAt}
 use Rattle.waits.specs.Lists.{kindIn, keyIn}
+use Rattle.dispatcher.specs.Dispatch.{isWaiting}
 use Rattle.dispatcher.specs.declared.read.ThreadView.{ThreadView}
 use Rattle.dispatcher.specs.declared.read.ThreadAnswer.{ThreadAnswer}
 use Rattle.dispatcher.specs.declared.read.ThreadAnswer.the-variants as read
 use Rattle.dispatcher.specs.declared.read.PlaceAnswer.{PlaceAnswer}
 use Rattle.dispatcher.specs.declared.read.PlaceAnswer.the-variants as object
+
+-- A thread that does not wait has no wait, whatever the words of its last one hold.
+
+-- how many objects it waits for
+unfoldable pub waitedCount : List ℕ → ℕ → ℕ
+waitedCount w id = cond (isWaiting w id) (countOf w id) 0
+
+-- word `k` of its record, a word of its wait
+unfoldable pub waitWord : List ℕ → ℕ → ℕ → ℕ
+waitWord w id k = cond (isWaiting w id) (getD w (threadAt id + k) 0) 0
 
 unfoldable pub viewOf : List ℕ → ℕ → ThreadView
 viewOf w id =
@@ -22,11 +33,11 @@ viewOf w id =
       state = t .state;
       result = t .result;
       status = t .status;
-      all = allOf w id;
-      timed = getD w (threadAt id + 7) 0;
-      deadline = getD w (threadAt id + 8) 0;
-      sequence = getD w (threadAt id + 9) 0;
-      count = countOf w id;
+      all = waitWord w id 6;
+      timed = waitWord w id 7;
+      deadline = waitWord w id 8;
+      sequence = waitWord w id 9;
+      count = waitedCount w id;
     }
 
 unfoldable pub threadRead : List ℕ → ℕ → ThreadAnswer
@@ -40,6 +51,6 @@ threadsAt w position = cond (leb (2 ^ 64 - 1) position) read.None (threadRead w 
 unfoldable pub waitedObject : List ℕ → ℕ → ℕ → PlaceAnswer
 waitedObject w id position =
     cond (known w id)
-    (cond (leb (countOf w id) position) object.None
+    (cond (leb (waitedCount w id) position) object.None
     (object.Object (record { kind = kindIn w (placesAt id) position; key = keyIn w (placesAt id) position })))
     object.None

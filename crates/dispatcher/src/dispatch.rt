@@ -93,7 +93,7 @@ fn run_first(w: &mut [u64], p: u64) -> Answer
     Answer::Run(id)
 }
 
-fn is_waiting(w: &[u64], id: u64) -> bool
+pub fn is_waiting(w: &[u64], id: u64) -> bool
     ensures { λ r. ⌜ r ≡ isWaiting (now (w .entry)) id ⌝ }
 {
     words::get_in(w, layout::thread_at(id), layout::STATE) == threads::WAITING

@@ -1,11 +1,12 @@
-// What is read of a thread, and of what it waits for. The words of a wait, its objects included, say something of a
-// waiting thread only: they stay when its wait ends.
+// What is read of a thread, and of what it waits for. The words of a wait stay when the wait ends: they are read of a waiting
+// thread only.
 ghost use mathlib.Core.Path.{_≡_};
-ghost use Rattle.dispatcher.specs.Read.{viewOf, threadRead, threadsAt, waitedObject};
+ghost use Rattle.dispatcher.specs.Read.{waitedCount, waitWord, viewOf, threadRead, threadsAt, waitedObject};
+use super::dispatch;
 use waits::lists;
 use words::layout;
 
-// `all` and `timed` are 0 or 1; `status` is an exited thread's.
+// `all` and `timed` are 0 or 1; `status` is an exited thread's; from `all` on, 0 for a thread that does not wait.
 pub struct ThreadView {
     pub id: u64,
     pub priority: u64,
@@ -37,22 +38,41 @@ pub enum PlaceAnswer {
     None,
 }
 
+// How many objects the thread waits for.
+fn waited_count(w: &[u64], id: u64) -> u64
+    ensures { λ r. ⌜ r ≡ waitedCount (now (w .entry)) id ⌝ }
+{
+    if dispatch::is_waiting(w, id) {
+        return threads::count_of(w, id) as u64;
+    }
+    0
+}
+
+// Word `k` of its record, a word of its wait.
+fn wait_word(w: &[u64], id: u64, k: usize) -> u64
+    ensures { λ r. ⌜ r ≡ waitWord (now (w .entry)) id k ⌝ }
+{
+    if dispatch::is_waiting(w, id) {
+        return words::get_in(w, layout::thread_at(id), k);
+    }
+    0
+}
+
 fn view(w: &[u64], id: u64) -> ThreadView
     ensures { λ r. ⌜ r ≡ viewOf (now (w .entry)) id ⌝ }
 {
     let t = threads::read_thread(w, id);
-    let at = layout::thread_at(id);
     ThreadView {
         id,
         priority: t.priority,
         state: t.state,
         result: t.result,
         status: t.status,
-        all: threads::all_of(w, id),
-        timed: words::get_in(w, at, layout::HAS_DEADLINE),
-        deadline: words::get_in(w, at, layout::DEADLINE),
-        sequence: words::get_in(w, at, layout::WAIT_SEQUENCE),
-        count: threads::count_of(w, id) as u64,
+        all: wait_word(w, id, layout::WAIT_ALL),
+        timed: wait_word(w, id, layout::HAS_DEADLINE),
+        deadline: wait_word(w, id, layout::DEADLINE),
+        sequence: wait_word(w, id, layout::WAIT_SEQUENCE),
+        count: waited_count(w, id),
     }
 }
 
@@ -83,7 +103,7 @@ pub fn waited_object(w: &[u64], id: u64, position: u64) -> PlaceAnswer
     if !threads::is_known(w, id) {
         return PlaceAnswer::None;
     }
-    if threads::count_of(w, id) as u64 <= position {
+    if waited_count(w, id) <= position {
         return PlaceAnswer::None;
     }
     let at = threads::places_at(id);

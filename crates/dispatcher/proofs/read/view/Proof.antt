@@ -6,23 +6,20 @@ use Rattle.dispatcher.proofs.read.view.Tie as tie
 read-thread-requires : tie.Need-read-thread-requires
 read-thread-requires c κs = search needs
 
-thread-at-requires : tie.Need-thread-at-requires
-thread-at-requires c κs = search needs
+wait-word-requires : tie.Need-wait-word-requires
+wait-word-requires c κs = search needs
 
-all-of-requires : tie.Need-all-of-requires
-all-of-requires c κs = search needs
+wait-word-requires-2 : tie.Need-wait-word-requires-2
+wait-word-requires-2 c κs = search needs
 
-get-in-requires : tie.Need-get-in-requires
-get-in-requires c κs = search needs
+wait-word-requires-3 : tie.Need-wait-word-requires-3
+wait-word-requires-3 c κs = search needs
 
-get-in-requires-2 : tie.Need-get-in-requires-2
-get-in-requires-2 c κs = search needs
+wait-word-requires-4 : tie.Need-wait-word-requires-4
+wait-word-requires-4 c κs = search needs
 
-get-in-requires-3 : tie.Need-get-in-requires-3
-get-in-requires-3 c κs = search needs
-
-count-of-requires : tie.Need-count-of-requires
-count-of-requires c κs = search needs
+waited-count-requires : tie.Need-waited-count-requires
+waited-count-requires c κs = search needs
 
 returns : tie.Need-returns
 unfolding viewOf
@@ -33,10 +30,9 @@ view-spec =
     tie.close
     (tie.spec
     read-thread-requires
-    thread-at-requires
-    all-of-requires
-    get-in-requires
-    get-in-requires-2
-    get-in-requires-3
-    count-of-requires
+    wait-word-requires
+    wait-word-requires-2
+    wait-word-requires-3
+    wait-word-requires-4
+    waited-count-requires
     returns)

@@ -2,7 +2,7 @@ use denote.Ref.{now}
 use mathlib.Core.Path.{_∙_, sym}
 use native.Mathlib.Omega.{arith}
 use borrow.Author.Tests.{le-leb, lt-leb, not-true, not-false}
-use Rattle.waits.proofs.WakeLaws.{count-most}
+use Rattle.dispatcher.proofs.ReadLaws.{waited-most}
 use Rattle.dispatcher.specs.Read.{waitedObject}
 use borrow.Author.Needs.{needs}
 use Rattle.dispatcher.proofs.read.waited_object.Statement.{statement}
@@ -15,25 +15,25 @@ returns : tie.Need-returns
 unfolding waitedObject
 returns c = simp (sym (c .before .is-known .ensures) ∙ not-true _ (c .if1 .taken))
 
-count-of-requires : tie.Need-count-of-requires
-count-of-requires c κs = search needs
+waited-count-requires : tie.Need-waited-count-requires
+waited-count-requires c κs = search needs
 
 returns-2 : tie.Need-returns-2
 unfolding waitedObject
-returns-2 c = simp (sym (c .before .before .before .is-known .ensures) ∙ not-false _ (c .before .before .if1 .left), ← (c .before .count-of .ensures), le-leb _ _ (c .if2 .taken))
+returns-2 c = simp (sym (c .before .before .before .is-known .ensures) ∙ not-false _ (c .before .before .if1 .left), ← (c .before .waited-count .ensures), le-leb _ _ (c .if2 .taken))
 
 places-at-requires : tie.Need-places-at-requires
 places-at-requires c κs = search needs
 
 kind-in-requires : tie.Need-kind-in-requires
-kind-in-requires c κs = omega (arith, count-most (now (c .before .before .before .before .before .before .args .w)) (c .before .before .before .before .before .before .args .id), c .before .before .count-of .ensures)
+kind-in-requires c κs = omega (arith, waited-most (now (c .before .before .before .before .before .before .args .w)) (c .before .before .before .before .before .before .args .id), c .before .before .waited-count .ensures)
 
 key-in-requires : tie.Need-key-in-requires
-key-in-requires c κs = omega (arith, count-most (now (c .before .before .before .before .before .before .before .args .w)) (c .before .before .before .before .before .before .before .args .id), c .before .before .before .count-of .ensures)
+key-in-requires c κs = omega (arith, waited-most (now (c .before .before .before .before .before .before .before .args .w)) (c .before .before .before .before .before .before .before .args .id), c .before .before .before .waited-count .ensures)
 
 returns-3 : tie.Need-returns-3
 unfolding waitedObject
-returns-3 c = simp (sym (c .before .before .before .before .before .before .is-known .ensures) ∙ not-false _ (c .before .before .before .before .before .if1 .left), ← (c .before .before .before .before .count-of .ensures), lt-leb _ _ (c .before .before .before .if2 .left)) (cc)
+returns-3 c = simp (sym (c .before .before .before .before .before .before .is-known .ensures) ∙ not-false _ (c .before .before .before .before .before .if1 .left), ← (c .before .before .before .before .waited-count .ensures), lt-leb _ _ (c .before .before .before .if2 .left)) (cc)
 
 pub waited-object-spec : {M : Type 1} → statement M
 waited-object-spec =
@@ -41,7 +41,7 @@ waited-object-spec =
     (tie.spec
     is-known-requires
     returns
-    count-of-requires
+    waited-count-requires
     returns-2
     places-at-requires
     kind-in-requires
