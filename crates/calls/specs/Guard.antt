@@ -24,7 +24,7 @@ use Rattle.dpc.specs.declared.reads.CountersAnswer.the-variants as counters
 use Rattle.timers.specs.declared.TimerAnswer.{TimerAnswer}
 use Rattle.timers.specs.declared.TimerAnswer.the-variants as timer
 use Rattle.form.specs.Form.{inForm}
-use Rattle.scheduler.specs.Images.{Imaged, imaged}
+use Rattle.calls.specs.Images.{Imaged, imaged}
 
 -- ---- calls that change the words
 

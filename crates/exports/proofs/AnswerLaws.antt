@@ -7,7 +7,8 @@ use borrow.Author.Tests.{lt-ltb, le-ltb}
 use Rattle.answers.specs.declared.Answer.{Answer}
 use Rattle.answers.specs.Outcome.{Outcome, outcome}
 use Rattle.dispatcher.specs.Dispatch.{Dispatched, told}
-use Rattle.scheduler.specs.Guard.{guardedDispatch}
+use Rattle.model.specs.Call as call
+use Rattle.calls.specs.Called.{called}
 use Rattle.exports.specs.SchedulerAnswer.{refusalOf, answerIn, given, changedBy, readBy, givenAll, dispatchedBy, Given, GivenAll}
 
 module _ (w out : List ℕ) where
@@ -33,7 +34,7 @@ module _ (w waiting out : List ℕ) where
   unfolding dispatchedBy
   dispatched-short h = simp (lt-ltb _ _ h)
 
-  pub dispatched-by : (a : Answer) (after numbers : List ℕ) → 4 ≤ length out → told a after numbers ≡ guardedDispatch w waiting
+  pub dispatched-by : (a : Answer) (after numbers : List ℕ) → 4 ≤ length out → told a after numbers ≡ called w (call.Dispatch (length waiting)) waiting
       → givenAll (refusalOf a) after numbers (answerIn out a) ≡ dispatchedBy w waiting out
   unfolding dispatchedBy
   dispatched-by a after numbers h e =

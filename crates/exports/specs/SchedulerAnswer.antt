@@ -7,7 +7,8 @@ use lib.Dec.{ltb, eqb}
 use Rattle.answers.specs.declared.Answer.{Answer}
 use Rattle.answers.specs.declared.Answer.the-variants as answer
 use Rattle.answers.specs.Outcome.{Outcome, bit}
-use Rattle.scheduler.specs.Guard.{guardedDispatch}
+use Rattle.model.specs.Call as call
+use Rattle.calls.specs.Called.{called}
 
 -- 0 where the call is accepted
 abbrev pub refusalOf : Answer → ℕ
@@ -83,5 +84,5 @@ givenAll n w waiting out = record { number = n; words = w; waiting = waiting; ou
 
 unfoldable pub dispatchedBy : List ℕ → List ℕ → List ℕ → GivenAll
 dispatchedBy w waiting out =
-    let d = guardedDispatch w waiting in
+    let d = called w (call.Dispatch (length waiting)) waiting in
     cond (ltb (length out) 4) (givenAll 27 w waiting out) (givenAll (refusalOf (d .answer)) (d .words) (d .output) (answerIn out (d .answer)))

@@ -1,9 +1,8 @@
 // The calls on DPCs. One that answers a DPC, its work, the policy or the counters wants an `out` of 24 words, else it is refused with 27;
 // for any other see `scheduler_calls`.
 ghost use mathlib.Core.Path.{_≡_};
-ghost use Rattle.dpc.specs.Calls as calls;
-ghost use Rattle.dpc.specs.Reads as read;
-ghost use Rattle.scheduler.specs.Guard.{guarded, guardedStart, readable, dpcReadable, policyReadable, countersReadable};
+ghost use Rattle.model.specs.Call as call;
+ghost use Rattle.calls.specs.Called.{called};
 ghost use Rattle.exports.specs.SchedulerAnswer.{given, changedBy, readBy};
 ghost use Rattle.exports.specs.RecordCall.{dpcReadBy, startedBy, policyReadBy, countersReadBy};
 use super::record_answer::put_counters_answer;
@@ -19,7 +18,7 @@ pub extern "C" fn scheduler_configure_dpc_dispatch(
     second: u64,
     out: &mut [u64],
 ) -> u64
-    ensures { λ r. ⌜ given r (now (words .exit)) (now (out .exit)) ≡ changedBy (now (words .entry)) (now (out .entry)) (guarded (now (words .entry)) (calls.configured (now (words .entry)) first second)) ⌝ }
+    ensures { λ r. ⌜ given r (now (words .exit)) (now (out .exit)) ≡ changedBy (now (words .entry)) (now (out .entry)) (called (now (words .entry)) (call.ConfigureDpcDispatch first second)) ⌝ }
 {
     if out.len() < 4 {
         return 27;
@@ -36,7 +35,7 @@ pub extern "C" fn scheduler_insert_queue_dpc(
     second: u64,
     out: &mut [u64],
 ) -> u64
-    ensures { λ r. ⌜ given r (now (words .exit)) (now (out .exit)) ≡ changedBy (now (words .entry)) (now (out .entry)) (guarded (now (words .entry)) (calls.queueInserted (now (words .entry)) address first second)) ⌝ }
+    ensures { λ r. ⌜ given r (now (words .exit)) (now (out .exit)) ≡ changedBy (now (words .entry)) (now (out .entry)) (called (now (words .entry)) (call.InsertQueueDpc address first second)) ⌝ }
 {
     if out.len() < 4 {
         return 27;
@@ -51,7 +50,7 @@ pub extern "C" fn scheduler_remove_queue_dpc(
     address: u64,
     out: &mut [u64],
 ) -> u64
-    ensures { λ r. ⌜ given r (now (words .exit)) (now (out .exit)) ≡ changedBy (now (words .entry)) (now (out .entry)) (guarded (now (words .entry)) (calls.queueRemoved (now (words .entry)) address)) ⌝ }
+    ensures { λ r. ⌜ given r (now (words .exit)) (now (out .exit)) ≡ changedBy (now (words .entry)) (now (out .entry)) (called (now (words .entry)) (call.RemoveQueueDpc address)) ⌝ }
 {
     if out.len() < 4 {
         return 27;
@@ -62,7 +61,7 @@ pub extern "C" fn scheduler_remove_queue_dpc(
 
 #[no_mangle]
 pub extern "C" fn scheduler_start_dpc(words: &mut [u64], address: u64, out: &mut [u64]) -> u64
-    ensures { λ r. ⌜ given r (now (words .exit)) (now (out .exit)) ≡ startedBy (now (words .entry)) (now (out .entry)) (guardedStart (now (words .entry)) (calls.workStarted (now (words .entry)) address)) ⌝ }
+    ensures { λ r. ⌜ given r (now (words .exit)) (now (out .exit)) ≡ startedBy (now (words .entry)) (now (out .entry)) (called (now (words .entry)) (call.StartDpc address)) ⌝ }
 {
     if out.len() < 24 {
         return 27;
@@ -78,7 +77,7 @@ pub extern "C" fn scheduler_returned_dpc(
     sequence: u64,
     out: &mut [u64],
 ) -> u64
-    ensures { λ r. ⌜ given r (now (words .exit)) (now (out .exit)) ≡ changedBy (now (words .entry)) (now (out .entry)) (guarded (now (words .entry)) (calls.workReturned (now (words .entry)) address sequence)) ⌝ }
+    ensures { λ r. ⌜ given r (now (words .exit)) (now (out .exit)) ≡ changedBy (now (words .entry)) (now (out .entry)) (called (now (words .entry)) (call.ReturnedDpc address sequence)) ⌝ }
 {
     if out.len() < 4 {
         return 27;
@@ -94,7 +93,7 @@ pub extern "C" fn scheduler_restored_dpc(
     sequence: u64,
     out: &mut [u64],
 ) -> u64
-    ensures { λ r. ⌜ given r (now (words .exit)) (now (out .exit)) ≡ changedBy (now (words .entry)) (now (out .entry)) (guarded (now (words .entry)) (calls.workRestored (now (words .entry)) address sequence)) ⌝ }
+    ensures { λ r. ⌜ given r (now (words .exit)) (now (out .exit)) ≡ changedBy (now (words .entry)) (now (out .entry)) (called (now (words .entry)) (call.RestoredDpc address sequence)) ⌝ }
 {
     if out.len() < 4 {
         return 27;
@@ -105,7 +104,7 @@ pub extern "C" fn scheduler_restored_dpc(
 
 #[no_mangle]
 pub extern "C" fn scheduler_dpc_initializations(words: &[u64], out: &mut [u64]) -> u64
-    ensures { λ r. ⌜ given r (now (words .entry)) (now (out .exit)) ≡ readBy (now (words .entry)) (now (out .entry)) (readable (now (words .entry)) (read.initializationsRead (now (words .entry)))) ⌝ }
+    ensures { λ r. ⌜ given r (now (words .entry)) (now (out .exit)) ≡ readBy (now (words .entry)) (now (out .entry)) (called (now (words .entry)) (call.Reads call.DpcInitializations)) ⌝ }
 {
     if out.len() < 4 {
         return 27;
@@ -116,7 +115,7 @@ pub extern "C" fn scheduler_dpc_initializations(words: &[u64], out: &mut [u64]) 
 
 #[no_mangle]
 pub extern "C" fn scheduler_queued_dpcs(words: &[u64], position: u64, out: &mut [u64]) -> u64
-    ensures { λ r. ⌜ given r (now (words .entry)) (now (out .exit)) ≡ readBy (now (words .entry)) (now (out .entry)) (readable (now (words .entry)) (read.queuedDpcs (now (words .entry)) position)) ⌝ }
+    ensures { λ r. ⌜ given r (now (words .entry)) (now (out .exit)) ≡ readBy (now (words .entry)) (now (out .entry)) (called (now (words .entry)) (call.Reads (call.QueuedDpcs position))) ⌝ }
 {
     if out.len() < 4 {
         return 27;
@@ -127,7 +126,7 @@ pub extern "C" fn scheduler_queued_dpcs(words: &[u64], position: u64, out: &mut 
 
 #[no_mangle]
 pub extern "C" fn scheduler_dpc(words: &[u64], address: u64, out: &mut [u64]) -> u64
-    ensures { λ r. ⌜ given r (now (words .entry)) (now (out .exit)) ≡ dpcReadBy (now (words .entry)) (now (out .entry)) (dpcReadable (now (words .entry)) (read.dpcRead (now (words .entry)) address)) ⌝ }
+    ensures { λ r. ⌜ given r (now (words .entry)) (now (out .exit)) ≡ dpcReadBy (now (words .entry)) (now (out .entry)) (called (now (words .entry)) (call.Reads (call.DpcAt address))) ⌝ }
 {
     if out.len() < 24 {
         return 27;
@@ -138,7 +137,7 @@ pub extern "C" fn scheduler_dpc(words: &[u64], address: u64, out: &mut [u64]) ->
 
 #[no_mangle]
 pub extern "C" fn scheduler_dpcs(words: &[u64], position: u64, out: &mut [u64]) -> u64
-    ensures { λ r. ⌜ given r (now (words .entry)) (now (out .exit)) ≡ dpcReadBy (now (words .entry)) (now (out .entry)) (dpcReadable (now (words .entry)) (read.dpcsAt (now (words .entry)) position)) ⌝ }
+    ensures { λ r. ⌜ given r (now (words .entry)) (now (out .exit)) ≡ dpcReadBy (now (words .entry)) (now (out .entry)) (called (now (words .entry)) (call.Reads (call.Dpcs position))) ⌝ }
 {
     if out.len() < 24 {
         return 27;
@@ -149,7 +148,7 @@ pub extern "C" fn scheduler_dpcs(words: &[u64], position: u64, out: &mut [u64]) 
 
 #[no_mangle]
 pub extern "C" fn scheduler_active_dpc(words: &[u64], out: &mut [u64]) -> u64
-    ensures { λ r. ⌜ given r (now (words .entry)) (now (out .exit)) ≡ dpcReadBy (now (words .entry)) (now (out .entry)) (dpcReadable (now (words .entry)) (read.activeDpc (now (words .entry)))) ⌝ }
+    ensures { λ r. ⌜ given r (now (words .entry)) (now (out .exit)) ≡ dpcReadBy (now (words .entry)) (now (out .entry)) (called (now (words .entry)) (call.Reads call.ActiveDpc)) ⌝ }
 {
     if out.len() < 24 {
         return 27;
@@ -160,7 +159,7 @@ pub extern "C" fn scheduler_active_dpc(words: &[u64], out: &mut [u64]) -> u64
 
 #[no_mangle]
 pub extern "C" fn scheduler_next_dpc(words: &[u64], out: &mut [u64]) -> u64
-    ensures { λ r. ⌜ given r (now (words .entry)) (now (out .exit)) ≡ dpcReadBy (now (words .entry)) (now (out .entry)) (dpcReadable (now (words .entry)) (read.nextDpc (now (words .entry)))) ⌝ }
+    ensures { λ r. ⌜ given r (now (words .entry)) (now (out .exit)) ≡ dpcReadBy (now (words .entry)) (now (out .entry)) (called (now (words .entry)) (call.Reads call.NextDpc)) ⌝ }
 {
     if out.len() < 24 {
         return 27;
@@ -171,7 +170,7 @@ pub extern "C" fn scheduler_next_dpc(words: &[u64], out: &mut [u64]) -> u64
 
 #[no_mangle]
 pub extern "C" fn scheduler_dpc_policy(words: &[u64], out: &mut [u64]) -> u64
-    ensures { λ r. ⌜ given r (now (words .entry)) (now (out .exit)) ≡ policyReadBy (now (words .entry)) (now (out .entry)) (policyReadable (now (words .entry)) (read.policyRead (now (words .entry)))) ⌝ }
+    ensures { λ r. ⌜ given r (now (words .entry)) (now (out .exit)) ≡ policyReadBy (now (words .entry)) (now (out .entry)) (called (now (words .entry)) (call.Reads call.DpcPolicy)) ⌝ }
 {
     if out.len() < 24 {
         return 27;
@@ -182,7 +181,7 @@ pub extern "C" fn scheduler_dpc_policy(words: &[u64], out: &mut [u64]) -> u64
 
 #[no_mangle]
 pub extern "C" fn scheduler_dpc_counters(words: &[u64], out: &mut [u64]) -> u64
-    ensures { λ r. ⌜ given r (now (words .entry)) (now (out .exit)) ≡ countersReadBy (now (words .entry)) (now (out .entry)) (countersReadable (now (words .entry)) (read.countersRead (now (words .entry)))) ⌝ }
+    ensures { λ r. ⌜ given r (now (words .entry)) (now (out .exit)) ≡ countersReadBy (now (words .entry)) (now (out .entry)) (called (now (words .entry)) (call.Reads call.DpcCounters)) ⌝ }
 {
     if out.len() < 24 {
         return 27;

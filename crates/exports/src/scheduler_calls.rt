@@ -2,20 +2,16 @@
 // answer's values behind it (`scheduler_answer`). An `out` under four words is refused with 27, before all else. A truth value is a
 // number, 0 for no.
 ghost use mathlib.Core.Path.{_≡_};
+ghost use lib.ListN.{length};
+ghost use Rattle.model.specs.Call as call;
+ghost use Rattle.calls.specs.Called.{called, optional};
 ghost use Rattle.kernel.specs.Open as opening;
-ghost use Rattle.kernel.specs.Thread as thread;
-ghost use Rattle.sync.specs.Mutexes as mutexes;
-ghost use Rattle.sync.specs.Events as events;
-ghost use Rattle.sync.specs.Release as release;
-ghost use Rattle.dispatcher.specs.Wait as wait;
-ghost use Rattle.dispatcher.specs.Advance as advance;
-ghost use Rattle.scheduler.specs.Guard.{guarded, readable};
 ghost use Rattle.exports.specs.SchedulerAnswer.{truth, given, changedBy, readBy, dispatchedBy, givenAll};
 use super::scheduler_answer::put_answer;
 
 #[no_mangle]
 pub extern "C" fn scheduler_create_thread(words: &mut [u64], priority: u64, out: &mut [u64]) -> u64
-    ensures { λ r. ⌜ given r (now (words .exit)) (now (out .exit)) ≡ changedBy (now (words .entry)) (now (out .entry)) (guarded (now (words .entry)) (thread.created (now (words .entry)) priority)) ⌝ }
+    ensures { λ r. ⌜ given r (now (words .exit)) (now (out .exit)) ≡ changedBy (now (words .entry)) (now (out .entry)) (called (now (words .entry)) (call.CreateThread priority)) ⌝ }
 {
     if out.len() < 4 {
         return 27;
@@ -31,7 +27,7 @@ pub extern "C" fn scheduler_priority(
     priority: u64,
     out: &mut [u64],
 ) -> u64
-    ensures { λ r. ⌜ given r (now (words .exit)) (now (out .exit)) ≡ changedBy (now (words .entry)) (now (out .entry)) (guarded (now (words .entry)) (thread.prioritized (now (words .entry)) id priority)) ⌝ }
+    ensures { λ r. ⌜ given r (now (words .exit)) (now (out .exit)) ≡ changedBy (now (words .entry)) (now (out .entry)) (called (now (words .entry)) (call.Priority id priority)) ⌝ }
 {
     if out.len() < 4 {
         return 27;
@@ -42,7 +38,7 @@ pub extern "C" fn scheduler_priority(
 
 #[no_mangle]
 pub extern "C" fn scheduler_yield_current(words: &mut [u64], out: &mut [u64]) -> u64
-    ensures { λ r. ⌜ given r (now (words .exit)) (now (out .exit)) ≡ changedBy (now (words .entry)) (now (out .entry)) (guarded (now (words .entry)) (thread.yielded (now (words .entry)))) ⌝ }
+    ensures { λ r. ⌜ given r (now (words .exit)) (now (out .exit)) ≡ changedBy (now (words .entry)) (now (out .entry)) (called (now (words .entry)) call.YieldCurrent) ⌝ }
 {
     if out.len() < 4 {
         return 27;
@@ -53,7 +49,7 @@ pub extern "C" fn scheduler_yield_current(words: &mut [u64], out: &mut [u64]) ->
 
 #[no_mangle]
 pub extern "C" fn scheduler_terminate(words: &mut [u64], status: u32, out: &mut [u64]) -> u64
-    ensures { λ r. ⌜ given r (now (words .exit)) (now (out .exit)) ≡ changedBy (now (words .entry)) (now (out .entry)) (guarded (now (words .entry)) (thread.terminated (now (words .entry)) status)) ⌝ }
+    ensures { λ r. ⌜ given r (now (words .exit)) (now (out .exit)) ≡ changedBy (now (words .entry)) (now (out .entry)) (called (now (words .entry)) (call.Terminate status)) ⌝ }
 {
     if out.len() < 4 {
         return 27;
@@ -64,7 +60,7 @@ pub extern "C" fn scheduler_terminate(words: &mut [u64], status: u32, out: &mut 
 
 #[no_mangle]
 pub extern "C" fn scheduler_initialize_mutex(words: &mut [u64], key: u64, out: &mut [u64]) -> u64
-    ensures { λ r. ⌜ given r (now (words .exit)) (now (out .exit)) ≡ changedBy (now (words .entry)) (now (out .entry)) (guarded (now (words .entry)) (mutexes.initialized (now (words .entry)) key)) ⌝ }
+    ensures { λ r. ⌜ given r (now (words .exit)) (now (out .exit)) ≡ changedBy (now (words .entry)) (now (out .entry)) (called (now (words .entry)) (call.InitializeMutex key)) ⌝ }
 {
     if out.len() < 4 {
         return 27;
@@ -81,7 +77,7 @@ pub extern "C" fn scheduler_adopt_mutex(
     owner: u64,
     out: &mut [u64],
 ) -> u64
-    ensures { λ r. ⌜ given r (now (words .exit)) (now (out .exit)) ≡ changedBy (now (words .entry)) (now (out .entry)) (guarded (now (words .entry)) (mutexes.adopted (now (words .entry)) key (truth owned) owner)) ⌝ }
+    ensures { λ r. ⌜ given r (now (words .exit)) (now (out .exit)) ≡ changedBy (now (words .entry)) (now (out .entry)) (called (now (words .entry)) (call.AdoptMutex key (optional (truth owned) owner))) ⌝ }
 {
     if out.len() < 4 {
         return 27;
@@ -92,7 +88,7 @@ pub extern "C" fn scheduler_adopt_mutex(
 
 #[no_mangle]
 pub extern "C" fn scheduler_release_mutex(words: &mut [u64], key: u64, out: &mut [u64]) -> u64
-    ensures { λ r. ⌜ given r (now (words .exit)) (now (out .exit)) ≡ changedBy (now (words .entry)) (now (out .entry)) (guarded (now (words .entry)) (mutexes.released (now (words .entry)) key)) ⌝ }
+    ensures { λ r. ⌜ given r (now (words .exit)) (now (out .exit)) ≡ changedBy (now (words .entry)) (now (out .entry)) (called (now (words .entry)) (call.ReleaseMutex key)) ⌝ }
 {
     if out.len() < 4 {
         return 27;
@@ -109,7 +105,7 @@ pub extern "C" fn scheduler_initialize_event(
     signaled: u64,
     out: &mut [u64],
 ) -> u64
-    ensures { λ r. ⌜ given r (now (words .exit)) (now (out .exit)) ≡ changedBy (now (words .entry)) (now (out .entry)) (guarded (now (words .entry)) (events.initialized (now (words .entry)) key (truth manual) (truth signaled))) ⌝ }
+    ensures { λ r. ⌜ given r (now (words .exit)) (now (out .exit)) ≡ changedBy (now (words .entry)) (now (out .entry)) (called (now (words .entry)) (call.InitializeEvent key (truth manual) (truth signaled))) ⌝ }
 {
     if out.len() < 4 {
         return 27;
@@ -120,7 +116,7 @@ pub extern "C" fn scheduler_initialize_event(
 
 #[no_mangle]
 pub extern "C" fn scheduler_set_event(words: &mut [u64], key: u64, out: &mut [u64]) -> u64
-    ensures { λ r. ⌜ given r (now (words .exit)) (now (out .exit)) ≡ changedBy (now (words .entry)) (now (out .entry)) (guarded (now (words .entry)) (events.wasSet (now (words .entry)) key)) ⌝ }
+    ensures { λ r. ⌜ given r (now (words .exit)) (now (out .exit)) ≡ changedBy (now (words .entry)) (now (out .entry)) (called (now (words .entry)) (call.SetEvent key)) ⌝ }
 {
     if out.len() < 4 {
         return 27;
@@ -131,7 +127,7 @@ pub extern "C" fn scheduler_set_event(words: &mut [u64], key: u64, out: &mut [u6
 
 #[no_mangle]
 pub extern "C" fn scheduler_reset_event(words: &mut [u64], key: u64, out: &mut [u64]) -> u64
-    ensures { λ r. ⌜ given r (now (words .exit)) (now (out .exit)) ≡ changedBy (now (words .entry)) (now (out .entry)) (guarded (now (words .entry)) (events.wasReset (now (words .entry)) key)) ⌝ }
+    ensures { λ r. ⌜ given r (now (words .exit)) (now (out .exit)) ≡ changedBy (now (words .entry)) (now (out .entry)) (called (now (words .entry)) (call.ResetEvent key)) ⌝ }
 {
     if out.len() < 4 {
         return 27;
@@ -148,7 +144,7 @@ pub extern "C" fn scheduler_retire_event_backing(
     layout: u64,
     out: &mut [u64],
 ) -> u64
-    ensures { λ r. ⌜ given r (now (words .exit)) (now (out .exit)) ≡ changedBy (now (words .entry)) (now (out .entry)) (guarded (now (words .entry)) (release.eventsRetired (now (words .entry)) base size layout)) ⌝ }
+    ensures { λ r. ⌜ given r (now (words .exit)) (now (out .exit)) ≡ changedBy (now (words .entry)) (now (out .entry)) (called (now (words .entry)) (call.RetireEventBacking base size layout)) ⌝ }
 {
     if out.len() < 4 {
         return 27;
@@ -164,7 +160,7 @@ pub extern "C" fn scheduler_delay_until(
     irql: u8,
     out: &mut [u64],
 ) -> u64
-    ensures { λ r. ⌜ given r (now (words .exit)) (now (out .exit)) ≡ changedBy (now (words .entry)) (now (out .entry)) (guarded (now (words .entry)) (wait.delayed (now (words .entry)) deadline irql)) ⌝ }
+    ensures { λ r. ⌜ given r (now (words .exit)) (now (out .exit)) ≡ changedBy (now (words .entry)) (now (out .entry)) (called (now (words .entry)) (call.DelayUntil deadline irql)) ⌝ }
 {
     if out.len() < 4 {
         return 27;
@@ -175,7 +171,7 @@ pub extern "C" fn scheduler_delay_until(
 
 #[no_mangle]
 pub extern "C" fn scheduler_advance_to(words: &mut [u64], time: u64, out: &mut [u64]) -> u64
-    ensures { λ r. ⌜ given r (now (words .exit)) (now (out .exit)) ≡ changedBy (now (words .entry)) (now (out .entry)) (guarded (now (words .entry)) (advance.advanced (now (words .entry)) time)) ⌝ }
+    ensures { λ r. ⌜ given r (now (words .exit)) (now (out .exit)) ≡ changedBy (now (words .entry)) (now (out .entry)) (called (now (words .entry)) (call.AdvanceTo time)) ⌝ }
 {
     if out.len() < 4 {
         return 27;
@@ -186,7 +182,7 @@ pub extern "C" fn scheduler_advance_to(words: &mut [u64], time: u64, out: &mut [
 
 #[no_mangle]
 pub extern "C" fn scheduler_current(words: &[u64], out: &mut [u64]) -> u64
-    ensures { λ r. ⌜ given r (now (words .entry)) (now (out .exit)) ≡ readBy (now (words .entry)) (now (out .entry)) (readable (now (words .entry)) (thread.currentAnswer (now (words .entry)))) ⌝ }
+    ensures { λ r. ⌜ given r (now (words .entry)) (now (out .exit)) ≡ readBy (now (words .entry)) (now (out .entry)) (called (now (words .entry)) (call.Reads call.Current)) ⌝ }
 {
     if out.len() < 4 {
         return 27;
@@ -197,7 +193,7 @@ pub extern "C" fn scheduler_current(words: &[u64], out: &mut [u64]) -> u64
 
 #[no_mangle]
 pub extern "C" fn scheduler_mutex_owner(words: &[u64], key: u64, out: &mut [u64]) -> u64
-    ensures { λ r. ⌜ given r (now (words .entry)) (now (out .exit)) ≡ readBy (now (words .entry)) (now (out .entry)) (readable (now (words .entry)) (mutexes.ownerAnswer (now (words .entry)) key)) ⌝ }
+    ensures { λ r. ⌜ given r (now (words .entry)) (now (out .exit)) ≡ readBy (now (words .entry)) (now (out .entry)) (called (now (words .entry)) (call.Reads (call.MutexOwner key))) ⌝ }
 {
     if out.len() < 4 {
         return 27;
@@ -208,7 +204,7 @@ pub extern "C" fn scheduler_mutex_owner(words: &[u64], key: u64, out: &mut [u64]
 
 #[no_mangle]
 pub extern "C" fn scheduler_mutex_waiters(words: &[u64], key: u64, out: &mut [u64]) -> u64
-    ensures { λ r. ⌜ given r (now (words .entry)) (now (out .exit)) ≡ readBy (now (words .entry)) (now (out .entry)) (readable (now (words .entry)) (mutexes.waitersAnswer (now (words .entry)) key)) ⌝ }
+    ensures { λ r. ⌜ given r (now (words .entry)) (now (out .exit)) ≡ readBy (now (words .entry)) (now (out .entry)) (called (now (words .entry)) (call.Reads (call.MutexWaiters key))) ⌝ }
 {
     if out.len() < 4 {
         return 27;
@@ -219,7 +215,7 @@ pub extern "C" fn scheduler_mutex_waiters(words: &[u64], key: u64, out: &mut [u6
 
 #[no_mangle]
 pub extern "C" fn scheduler_event_state(words: &[u64], key: u64, out: &mut [u64]) -> u64
-    ensures { λ r. ⌜ given r (now (words .entry)) (now (out .exit)) ≡ readBy (now (words .entry)) (now (out .entry)) (readable (now (words .entry)) (events.eventState (now (words .entry)) key)) ⌝ }
+    ensures { λ r. ⌜ given r (now (words .entry)) (now (out .exit)) ≡ readBy (now (words .entry)) (now (out .entry)) (called (now (words .entry)) (call.Reads (call.EventState key))) ⌝ }
 {
     if out.len() < 4 {
         return 27;
@@ -230,7 +226,7 @@ pub extern "C" fn scheduler_event_state(words: &[u64], key: u64, out: &mut [u64]
 
 #[no_mangle]
 pub extern "C" fn scheduler_event_states(words: &[u64], position: u64, out: &mut [u64]) -> u64
-    ensures { λ r. ⌜ given r (now (words .entry)) (now (out .exit)) ≡ readBy (now (words .entry)) (now (out .entry)) (readable (now (words .entry)) (release.eventStates (now (words .entry)) position)) ⌝ }
+    ensures { λ r. ⌜ given r (now (words .entry)) (now (out .exit)) ≡ readBy (now (words .entry)) (now (out .entry)) (called (now (words .entry)) (call.Reads (call.EventStates position))) ⌝ }
 {
     if out.len() < 4 {
         return 27;
@@ -247,7 +243,7 @@ pub extern "C" fn scheduler_require_event_release(
     layout: u64,
     out: &mut [u64],
 ) -> u64
-    ensures { λ r. ⌜ given r (now (words .entry)) (now (out .exit)) ≡ readBy (now (words .entry)) (now (out .entry)) (readable (now (words .entry)) (release.releaseAnswer (now (words .entry)) base size layout)) ⌝ }
+    ensures { λ r. ⌜ given r (now (words .entry)) (now (out .exit)) ≡ readBy (now (words .entry)) (now (out .entry)) (called (now (words .entry)) (call.Reads (call.RequireEventRelease base size layout))) ⌝ }
 {
     if out.len() < 4 {
         return 27;
@@ -281,12 +277,12 @@ pub extern "C" fn scheduler_open(
     dpcs: u64,
     out: &mut [u64],
 ) -> u64
-    ensures { λ r. ⌜ given r (now (words .exit)) (now (out .exit)) ≡ changedBy (now (words .entry)) (now (out .entry)) (opening.opened (now (words .entry)) priority threads objects dpcs) ⌝ }
+    ensures { λ r. ⌜ given r (now (words .exit)) (now (out .exit)) ≡ changedBy (now (words .entry)) (now (out .entry)) (called (now (words .entry)) (call.Open (length (now (words .entry))) priority threads objects dpcs)) ⌝ }
 {
     if out.len() < 4 {
         return 27;
     }
-    let answer = kernel::open::open(words, priority, threads, objects, dpcs);
+    let answer = scheduler::changes::open(words, priority, threads, objects, dpcs);
     put_answer(out, answer)
 }
 
@@ -300,7 +296,7 @@ pub extern "C" fn scheduler_wait(
     irql: u8,
     out: &mut [u64],
 ) -> u64
-    ensures { λ r. ⌜ given r (now (words .exit)) (now (out .exit)) ≡ changedBy (now (words .entry)) (now (out .entry)) (guarded (now (words .entry)) (wait.waited (now (words .entry)) (now (list .entry)) (truth all) (truth timed) deadline irql)) ⌝ }
+    ensures { λ r. ⌜ given r (now (words .exit)) (now (out .exit)) ≡ changedBy (now (words .entry)) (now (out .entry)) (called (now (words .entry)) (call.Wait (now (list .entry)) (truth all) (optional (truth timed) deadline) irql)) ⌝ }
 {
     if out.len() < 4 {
         return 27;

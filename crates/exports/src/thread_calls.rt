@@ -1,7 +1,7 @@
 // What is read of threads, into an `out` of 24 words; a shorter one is refused with 27.
 ghost use mathlib.Core.Path.{_≡_};
-ghost use Rattle.dispatcher.specs.Read as read;
-ghost use Rattle.scheduler.specs.Guard.{threadReadable, placeReadable};
+ghost use Rattle.model.specs.Call as call;
+ghost use Rattle.calls.specs.Called.{called};
 ghost use Rattle.exports.specs.SchedulerAnswer.{given};
 ghost use Rattle.exports.specs.RecordCall.{threadReadBy, placeReadBy};
 use super::record_answer::put_place_answer;
@@ -9,7 +9,7 @@ use super::record_answer::put_thread_answer;
 
 #[no_mangle]
 pub extern "C" fn scheduler_thread(words: &[u64], id: u64, out: &mut [u64]) -> u64
-    ensures { λ r. ⌜ given r (now (words .entry)) (now (out .exit)) ≡ threadReadBy (now (words .entry)) (now (out .entry)) (threadReadable (now (words .entry)) (read.threadRead (now (words .entry)) id)) ⌝ }
+    ensures { λ r. ⌜ given r (now (words .entry)) (now (out .exit)) ≡ threadReadBy (now (words .entry)) (now (out .entry)) (called (now (words .entry)) (call.Reads (call.Thread id))) ⌝ }
 {
     if out.len() < 24 {
         return 27;
@@ -20,7 +20,7 @@ pub extern "C" fn scheduler_thread(words: &[u64], id: u64, out: &mut [u64]) -> u
 
 #[no_mangle]
 pub extern "C" fn scheduler_threads(words: &[u64], position: u64, out: &mut [u64]) -> u64
-    ensures { λ r. ⌜ given r (now (words .entry)) (now (out .exit)) ≡ threadReadBy (now (words .entry)) (now (out .entry)) (threadReadable (now (words .entry)) (read.threadsAt (now (words .entry)) position)) ⌝ }
+    ensures { λ r. ⌜ given r (now (words .entry)) (now (out .exit)) ≡ threadReadBy (now (words .entry)) (now (out .entry)) (called (now (words .entry)) (call.Reads (call.Threads position))) ⌝ }
 {
     if out.len() < 24 {
         return 27;
@@ -36,7 +36,7 @@ pub extern "C" fn scheduler_waited_object(
     position: u64,
     out: &mut [u64],
 ) -> u64
-    ensures { λ r. ⌜ given r (now (words .entry)) (now (out .exit)) ≡ placeReadBy (now (words .entry)) (now (out .entry)) (placeReadable (now (words .entry)) (read.waitedObject (now (words .entry)) id position)) ⌝ }
+    ensures { λ r. ⌜ given r (now (words .entry)) (now (out .exit)) ≡ placeReadBy (now (words .entry)) (now (out .entry)) (called (now (words .entry)) (call.Reads (call.WaitedObject id position))) ⌝ }
 {
     if out.len() < 24 {
         return 27;

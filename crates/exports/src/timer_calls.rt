@@ -2,12 +2,9 @@
 // other number for pool, and then its base, its size (of a pool: the bytes asked for) and the bytes mapped. A call that answers a timer
 // wants an `out` of 24 words, else it is refused with 27; for any other see `scheduler_calls`.
 ghost use mathlib.Core.Path.{_≡_};
+ghost use Rattle.model.specs.Call as call;
+ghost use Rattle.calls.specs.Called.{called};
 ghost use Rattle.images.specs.Place.{architectureOf, backingOf};
-ghost use Rattle.timers.specs.Initialize as initialize;
-ghost use Rattle.timers.specs.Arm as arm;
-ghost use Rattle.timers.specs.Release as release;
-ghost use Rattle.timers.specs.Reads as read;
-ghost use Rattle.scheduler.specs.Guard.{guarded, readable, timerReadable};
 ghost use Rattle.exports.specs.SchedulerAnswer.{truth, given, changedBy, readBy};
 ghost use Rattle.exports.specs.RecordCall.{timerReadBy};
 use super::record_answer::put_timer_answer;
@@ -25,7 +22,7 @@ pub extern "C" fn scheduler_initialize_timer(
     manual: u64,
     out: &mut [u64],
 ) -> u64
-    ensures { λ r. ⌜ given r (now (words .exit)) (now (out .exit)) ≡ changedBy (now (words .entry)) (now (out .entry)) (guarded (now (words .entry)) (initialize.timerInitialized (now (words .entry)) address (architectureOf architecture) (backingOf backing base size mapped) (truth manual))) ⌝ }
+    ensures { λ r. ⌜ given r (now (words .exit)) (now (out .exit)) ≡ changedBy (now (words .entry)) (now (out .entry)) (called (now (words .entry)) (call.InitializeTimer address (architectureOf architecture) (backingOf backing base size mapped) (truth manual))) ⌝ }
 {
     if out.len() < 4 {
         return 27;
@@ -49,7 +46,7 @@ pub extern "C" fn scheduler_initialize_dpc(
     context: u64,
     out: &mut [u64],
 ) -> u64
-    ensures { λ r. ⌜ given r (now (words .exit)) (now (out .exit)) ≡ changedBy (now (words .entry)) (now (out .entry)) (guarded (now (words .entry)) (initialize.dpcInitialized (now (words .entry)) address (architectureOf architecture) (backingOf backing base size mapped) routine context)) ⌝ }
+    ensures { λ r. ⌜ given r (now (words .exit)) (now (out .exit)) ≡ changedBy (now (words .entry)) (now (out .entry)) (called (now (words .entry)) (call.InitializeDpc address (architectureOf architecture) (backingOf backing base size mapped) routine context)) ⌝ }
 {
     if out.len() < 4 {
         return 27;
@@ -70,7 +67,7 @@ pub extern "C" fn scheduler_set_timer(
     dpc: u64,
     out: &mut [u64],
 ) -> u64
-    ensures { λ r. ⌜ given r (now (words .exit)) (now (out .exit)) ≡ changedBy (now (words .entry)) (now (out .entry)) (guarded (now (words .entry)) (arm.timerSet (now (words .entry)) address due (truth absolute) period dpc)) ⌝ }
+    ensures { λ r. ⌜ given r (now (words .exit)) (now (out .exit)) ≡ changedBy (now (words .entry)) (now (out .entry)) (called (now (words .entry)) (call.SetTimer address due (truth absolute) period dpc)) ⌝ }
 {
     if out.len() < 4 {
         return 27;
@@ -79,9 +76,28 @@ pub extern "C" fn scheduler_set_timer(
     put_answer(out, answer)
 }
 
+// A due of -d is d ticks from now; a due that is not negative is a time.
+#[no_mangle]
+pub extern "C" fn scheduler_set_timer_signed(
+    words: &mut [u64],
+    address: u64,
+    due: i64,
+    period: i32,
+    dpc: u64,
+    out: &mut [u64],
+) -> u64
+    ensures { λ r. ⌜ given r (now (words .exit)) (now (out .exit)) ≡ changedBy (now (words .entry)) (now (out .entry)) (called (now (words .entry)) (call.SetTimerSigned address due period dpc)) ⌝ }
+{
+    if out.len() < 4 {
+        return 27;
+    }
+    let answer = scheduler::timer_calls::set_timer_signed(words, address, due, period, dpc);
+    put_answer(out, answer)
+}
+
 #[no_mangle]
 pub extern "C" fn scheduler_cancel_timer(words: &mut [u64], address: u64, out: &mut [u64]) -> u64
-    ensures { λ r. ⌜ given r (now (words .exit)) (now (out .exit)) ≡ changedBy (now (words .entry)) (now (out .entry)) (guarded (now (words .entry)) (arm.timerCancelled (now (words .entry)) address)) ⌝ }
+    ensures { λ r. ⌜ given r (now (words .exit)) (now (out .exit)) ≡ changedBy (now (words .entry)) (now (out .entry)) (called (now (words .entry)) (call.CancelTimer address)) ⌝ }
 {
     if out.len() < 4 {
         return 27;
@@ -97,7 +113,7 @@ pub extern "C" fn scheduler_retire_timer_backing(
     size: u64,
     out: &mut [u64],
 ) -> u64
-    ensures { λ r. ⌜ given r (now (words .exit)) (now (out .exit)) ≡ changedBy (now (words .entry)) (now (out .entry)) (guarded (now (words .entry)) (release.timersRetired (now (words .entry)) address size)) ⌝ }
+    ensures { λ r. ⌜ given r (now (words .exit)) (now (out .exit)) ≡ changedBy (now (words .entry)) (now (out .entry)) (called (now (words .entry)) (call.RetireTimerBacking address size)) ⌝ }
 {
     if out.len() < 4 {
         return 27;
@@ -113,7 +129,7 @@ pub extern "C" fn scheduler_require_timer_release(
     size: u64,
     out: &mut [u64],
 ) -> u64
-    ensures { λ r. ⌜ given r (now (words .entry)) (now (out .exit)) ≡ readBy (now (words .entry)) (now (out .entry)) (readable (now (words .entry)) (release.timerRelease (now (words .entry)) address size)) ⌝ }
+    ensures { λ r. ⌜ given r (now (words .entry)) (now (out .exit)) ≡ readBy (now (words .entry)) (now (out .entry)) (called (now (words .entry)) (call.Reads (call.RequireTimerRelease address size))) ⌝ }
 {
     if out.len() < 4 {
         return 27;
@@ -124,7 +140,7 @@ pub extern "C" fn scheduler_require_timer_release(
 
 #[no_mangle]
 pub extern "C" fn scheduler_timer_initializations(words: &[u64], out: &mut [u64]) -> u64
-    ensures { λ r. ⌜ given r (now (words .entry)) (now (out .exit)) ≡ readBy (now (words .entry)) (now (out .entry)) (readable (now (words .entry)) (read.timerInitializations (now (words .entry)))) ⌝ }
+    ensures { λ r. ⌜ given r (now (words .entry)) (now (out .exit)) ≡ readBy (now (words .entry)) (now (out .entry)) (called (now (words .entry)) (call.Reads call.TimerInitializations)) ⌝ }
 {
     if out.len() < 4 {
         return 27;
@@ -140,7 +156,7 @@ pub extern "C" fn scheduler_timer_read_overlap(
     size: u64,
     out: &mut [u64],
 ) -> u64
-    ensures { λ r. ⌜ given r (now (words .entry)) (now (out .exit)) ≡ readBy (now (words .entry)) (now (out .entry)) (readable (now (words .entry)) (read.readOverlap (now (words .entry)) address size)) ⌝ }
+    ensures { λ r. ⌜ given r (now (words .entry)) (now (out .exit)) ≡ readBy (now (words .entry)) (now (out .entry)) (called (now (words .entry)) (call.Reads (call.TimerReadOverlap address size))) ⌝ }
 {
     if out.len() < 4 {
         return 27;
@@ -156,7 +172,7 @@ pub extern "C" fn scheduler_timer_metadata_overlap(
     size: u64,
     out: &mut [u64],
 ) -> u64
-    ensures { λ r. ⌜ given r (now (words .entry)) (now (out .exit)) ≡ readBy (now (words .entry)) (now (out .entry)) (readable (now (words .entry)) (read.metadataOverlap (now (words .entry)) address size)) ⌝ }
+    ensures { λ r. ⌜ given r (now (words .entry)) (now (out .exit)) ≡ readBy (now (words .entry)) (now (out .entry)) (called (now (words .entry)) (call.Reads (call.TimerMetadataOverlap address size))) ⌝ }
 {
     if out.len() < 4 {
         return 27;
@@ -167,7 +183,7 @@ pub extern "C" fn scheduler_timer_metadata_overlap(
 
 #[no_mangle]
 pub extern "C" fn scheduler_timer(words: &[u64], address: u64, out: &mut [u64]) -> u64
-    ensures { λ r. ⌜ given r (now (words .entry)) (now (out .exit)) ≡ timerReadBy (now (words .entry)) (now (out .entry)) (timerReadable (now (words .entry)) (read.timerRead (now (words .entry)) address)) ⌝ }
+    ensures { λ r. ⌜ given r (now (words .entry)) (now (out .exit)) ≡ timerReadBy (now (words .entry)) (now (out .entry)) (called (now (words .entry)) (call.Reads (call.TimerAt address))) ⌝ }
 {
     if out.len() < 24 {
         return 27;
@@ -178,7 +194,7 @@ pub extern "C" fn scheduler_timer(words: &[u64], address: u64, out: &mut [u64]) 
 
 #[no_mangle]
 pub extern "C" fn scheduler_timers(words: &[u64], position: u64, out: &mut [u64]) -> u64
-    ensures { λ r. ⌜ given r (now (words .entry)) (now (out .exit)) ≡ timerReadBy (now (words .entry)) (now (out .entry)) (timerReadable (now (words .entry)) (read.timersAt (now (words .entry)) position)) ⌝ }
+    ensures { λ r. ⌜ given r (now (words .entry)) (now (out .exit)) ≡ timerReadBy (now (words .entry)) (now (out .entry)) (called (now (words .entry)) (call.Reads (call.Timers position))) ⌝ }
 {
     if out.len() < 24 {
         return 27;
@@ -189,7 +205,7 @@ pub extern "C" fn scheduler_timers(words: &[u64], position: u64, out: &mut [u64]
 
 #[no_mangle]
 pub extern "C" fn scheduler_pending_timer_dpc(words: &[u64], out: &mut [u64]) -> u64
-    ensures { λ r. ⌜ given r (now (words .entry)) (now (out .exit)) ≡ timerReadBy (now (words .entry)) (now (out .entry)) (timerReadable (now (words .entry)) (read.pendingRead (now (words .entry)))) ⌝ }
+    ensures { λ r. ⌜ given r (now (words .entry)) (now (out .exit)) ≡ timerReadBy (now (words .entry)) (now (out .entry)) (called (now (words .entry)) (call.Reads call.PendingTimerDpc)) ⌝ }
 {
     if out.len() < 24 {
         return 27;

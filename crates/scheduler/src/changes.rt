@@ -1,18 +1,21 @@
 // The calls that change the words.
 ghost use mathlib.Core.Path.{_≡_};
+ghost use lib.ListN.{length};
+ghost use Rattle.model.specs.Call as call;
+ghost use Rattle.calls.specs.Called.{called, optional};
 ghost use Rattle.answers.specs.Outcome.{outcome};
-ghost use Rattle.kernel.specs.Thread as thread;
-ghost use Rattle.sync.specs.Mutexes as mutexes;
-ghost use Rattle.sync.specs.Events as events;
-ghost use Rattle.sync.specs.Release as release;
-ghost use Rattle.dispatcher.specs.Wait as wait;
-ghost use Rattle.dispatcher.specs.Advance as advance;
 ghost use Rattle.dispatcher.specs.Dispatch as dispatch;
-ghost use Rattle.scheduler.specs.Guard.{guarded, guardedDispatch};
 use answers::Answer;
 
+// A scheduler with thread 1 running at `priority`, and the rest empty or 0; on any words that are enough for the limits.
+pub fn open(w: &mut [u64], priority: u64, t: u64, o: u64, d: u64) -> Answer
+    ensures { λ r. ⌜ outcome r (now (w .exit)) ≡ called (now (w .entry)) (call.Open (length (now (w .entry))) priority t o d) ⌝ }
+{
+    kernel::open::open(w, priority, t, o, d)
+}
+
 pub fn create_thread(w: &mut [u64], priority: u64) -> Answer
-    ensures { λ r. ⌜ outcome r (now (w .exit)) ≡ guarded (now (w .entry)) (thread.created (now (w .entry)) priority) ⌝ }
+    ensures { λ r. ⌜ outcome r (now (w .exit)) ≡ called (now (w .entry)) (call.CreateThread priority) ⌝ }
 {
     if !form::in_form(w) {
         return Answer::Refused(27);
@@ -21,7 +24,7 @@ pub fn create_thread(w: &mut [u64], priority: u64) -> Answer
 }
 
 pub fn priority(w: &mut [u64], id: u64, priority: u64) -> Answer
-    ensures { λ r. ⌜ outcome r (now (w .exit)) ≡ guarded (now (w .entry)) (thread.prioritized (now (w .entry)) id priority) ⌝ }
+    ensures { λ r. ⌜ outcome r (now (w .exit)) ≡ called (now (w .entry)) (call.Priority id priority) ⌝ }
 {
     if !form::in_form(w) {
         return Answer::Refused(27);
@@ -30,7 +33,7 @@ pub fn priority(w: &mut [u64], id: u64, priority: u64) -> Answer
 }
 
 pub fn yield_current(w: &mut [u64]) -> Answer
-    ensures { λ r. ⌜ outcome r (now (w .exit)) ≡ guarded (now (w .entry)) (thread.yielded (now (w .entry))) ⌝ }
+    ensures { λ r. ⌜ outcome r (now (w .exit)) ≡ called (now (w .entry)) call.YieldCurrent ⌝ }
 {
     if !form::in_form(w) {
         return Answer::Refused(27);
@@ -39,7 +42,7 @@ pub fn yield_current(w: &mut [u64]) -> Answer
 }
 
 pub fn terminate(w: &mut [u64], status: u32) -> Answer
-    ensures { λ r. ⌜ outcome r (now (w .exit)) ≡ guarded (now (w .entry)) (thread.terminated (now (w .entry)) status) ⌝ }
+    ensures { λ r. ⌜ outcome r (now (w .exit)) ≡ called (now (w .entry)) (call.Terminate status) ⌝ }
 {
     if !form::in_form(w) {
         return Answer::Refused(27);
@@ -48,7 +51,7 @@ pub fn terminate(w: &mut [u64], status: u32) -> Answer
 }
 
 pub fn initialize_mutex(w: &mut [u64], key: u64) -> Answer
-    ensures { λ r. ⌜ outcome r (now (w .exit)) ≡ guarded (now (w .entry)) (mutexes.initialized (now (w .entry)) key) ⌝ }
+    ensures { λ r. ⌜ outcome r (now (w .exit)) ≡ called (now (w .entry)) (call.InitializeMutex key) ⌝ }
 {
     if !form::in_form(w) {
         return Answer::Refused(27);
@@ -57,16 +60,19 @@ pub fn initialize_mutex(w: &mut [u64], key: u64) -> Answer
 }
 
 pub fn adopt_mutex(w: &mut [u64], key: u64, owned: bool, owner: u64) -> Answer
-    ensures { λ r. ⌜ outcome r (now (w .exit)) ≡ guarded (now (w .entry)) (mutexes.adopted (now (w .entry)) key owned owner) ⌝ }
+    ensures { λ r. ⌜ outcome r (now (w .exit)) ≡ called (now (w .entry)) (call.AdoptMutex key (optional owned owner)) ⌝ }
 {
     if !form::in_form(w) {
         return Answer::Refused(27);
     }
-    sync::mutexes::adopt_mutex(w, key, owned, owner)
+    if owned {
+        return sync::mutexes::adopt_mutex(w, key, true, owner);
+    }
+    sync::mutexes::adopt_mutex(w, key, false, 0)
 }
 
 pub fn release_mutex(w: &mut [u64], key: u64) -> Answer
-    ensures { λ r. ⌜ outcome r (now (w .exit)) ≡ guarded (now (w .entry)) (mutexes.released (now (w .entry)) key) ⌝ }
+    ensures { λ r. ⌜ outcome r (now (w .exit)) ≡ called (now (w .entry)) (call.ReleaseMutex key) ⌝ }
 {
     if !form::in_form(w) {
         return Answer::Refused(27);
@@ -75,7 +81,7 @@ pub fn release_mutex(w: &mut [u64], key: u64) -> Answer
 }
 
 pub fn initialize_event(w: &mut [u64], key: u64, manual: bool, signaled: bool) -> Answer
-    ensures { λ r. ⌜ outcome r (now (w .exit)) ≡ guarded (now (w .entry)) (events.initialized (now (w .entry)) key manual signaled) ⌝ }
+    ensures { λ r. ⌜ outcome r (now (w .exit)) ≡ called (now (w .entry)) (call.InitializeEvent key manual signaled) ⌝ }
 {
     if !form::in_form(w) {
         return Answer::Refused(27);
@@ -84,7 +90,7 @@ pub fn initialize_event(w: &mut [u64], key: u64, manual: bool, signaled: bool) -
 }
 
 pub fn set_event(w: &mut [u64], key: u64) -> Answer
-    ensures { λ r. ⌜ outcome r (now (w .exit)) ≡ guarded (now (w .entry)) (events.wasSet (now (w .entry)) key) ⌝ }
+    ensures { λ r. ⌜ outcome r (now (w .exit)) ≡ called (now (w .entry)) (call.SetEvent key) ⌝ }
 {
     if !form::in_form(w) {
         return Answer::Refused(27);
@@ -93,7 +99,7 @@ pub fn set_event(w: &mut [u64], key: u64) -> Answer
 }
 
 pub fn reset_event(w: &mut [u64], key: u64) -> Answer
-    ensures { λ r. ⌜ outcome r (now (w .exit)) ≡ guarded (now (w .entry)) (events.wasReset (now (w .entry)) key) ⌝ }
+    ensures { λ r. ⌜ outcome r (now (w .exit)) ≡ called (now (w .entry)) (call.ResetEvent key) ⌝ }
 {
     if !form::in_form(w) {
         return Answer::Refused(27);
@@ -102,7 +108,7 @@ pub fn reset_event(w: &mut [u64], key: u64) -> Answer
 }
 
 pub fn retire_event_backing(w: &mut [u64], base: u64, size: u64, layout: u64) -> Answer
-    ensures { λ r. ⌜ outcome r (now (w .exit)) ≡ guarded (now (w .entry)) (release.eventsRetired (now (w .entry)) base size layout) ⌝ }
+    ensures { λ r. ⌜ outcome r (now (w .exit)) ≡ called (now (w .entry)) (call.RetireEventBacking base size layout) ⌝ }
 {
     if !form::in_form(w) {
         return Answer::Refused(27);
@@ -111,7 +117,7 @@ pub fn retire_event_backing(w: &mut [u64], base: u64, size: u64, layout: u64) ->
 }
 
 pub fn delay_until(w: &mut [u64], deadline: u64, irql: u8) -> Answer
-    ensures { λ r. ⌜ outcome r (now (w .exit)) ≡ guarded (now (w .entry)) (wait.delayed (now (w .entry)) deadline irql) ⌝ }
+    ensures { λ r. ⌜ outcome r (now (w .exit)) ≡ called (now (w .entry)) (call.DelayUntil deadline irql) ⌝ }
 {
     if !form::in_form(w) {
         return Answer::Refused(27);
@@ -120,7 +126,7 @@ pub fn delay_until(w: &mut [u64], deadline: u64, irql: u8) -> Answer
 }
 
 pub fn advance_to(w: &mut [u64], time: u64) -> Answer
-    ensures { λ r. ⌜ outcome r (now (w .exit)) ≡ guarded (now (w .entry)) (advance.advanced (now (w .entry)) time) ⌝ }
+    ensures { λ r. ⌜ outcome r (now (w .exit)) ≡ called (now (w .entry)) (call.AdvanceTo time) ⌝ }
 {
     if !form::in_form(w) {
         return Answer::Refused(27);
@@ -129,16 +135,19 @@ pub fn advance_to(w: &mut [u64], time: u64) -> Answer
 }
 
 pub fn wait(w: &mut [u64], list: &[u64], all: bool, timed: bool, deadline: u64, irql: u8) -> Answer
-    ensures { λ r. ⌜ outcome r (now (w .exit)) ≡ guarded (now (w .entry)) (wait.waited (now (w .entry)) (now (list .entry)) all timed deadline irql) ⌝ }
+    ensures { λ r. ⌜ outcome r (now (w .exit)) ≡ called (now (w .entry)) (call.Wait (now (list .entry)) all (optional timed deadline) irql) ⌝ }
 {
     if !form::in_form(w) {
         return Answer::Refused(27);
     }
-    dispatcher::wait::wait(w, list, all, timed, deadline, irql)
+    if timed {
+        return dispatcher::wait::wait(w, list, all, true, deadline, irql);
+    }
+    dispatcher::wait::wait(w, list, all, false, 0, irql)
 }
 
 pub fn dispatch(w: &mut [u64], out: &mut [u64]) -> Answer
-    ensures { λ r. ⌜ dispatch.told r (now (w .exit)) (now (out .exit)) ≡ guardedDispatch (now (w .entry)) (now (out .entry)) ⌝ }
+    ensures { λ r. ⌜ dispatch.told r (now (w .exit)) (now (out .exit)) ≡ called (now (w .entry)) (call.Dispatch (length (now (out .entry)))) (now (out .entry)) ⌝ }
 {
     if !form::in_form(w) {
         return Answer::Refused(27);

@@ -1,9 +1,9 @@
 // DPCs: the policy, the queue, the work's way from its start to its end, and what is read of them.
 ghost use mathlib.Core.Path.{_≡_};
+ghost use Rattle.model.specs.Call as call;
+ghost use Rattle.calls.specs.Called.{called};
 ghost use Rattle.answers.specs.Outcome.{outcome};
 ghost use Rattle.dpc.specs.Calls as calls;
-ghost use Rattle.dpc.specs.Reads as read;
-ghost use Rattle.scheduler.specs.Guard.{guarded, guardedStart, readable, dpcReadable, policyReadable, countersReadable};
 use answers::Answer;
 use dpc::calls::WorkAnswer;
 use dpc::reads::CountersAnswer;
@@ -11,7 +11,7 @@ use dpc::reads::DpcAnswer;
 use dpc::reads::PolicyAnswer;
 
 pub fn configure_dpc_dispatch(w: &mut [u64], first: u64, second: u64) -> Answer
-    ensures { λ r. ⌜ outcome r (now (w .exit)) ≡ guarded (now (w .entry)) (calls.configured (now (w .entry)) first second) ⌝ }
+    ensures { λ r. ⌜ outcome r (now (w .exit)) ≡ called (now (w .entry)) (call.ConfigureDpcDispatch first second) ⌝ }
 {
     if !form::in_form(w) {
         return Answer::Refused(27);
@@ -20,7 +20,7 @@ pub fn configure_dpc_dispatch(w: &mut [u64], first: u64, second: u64) -> Answer
 }
 
 pub fn insert_queue_dpc(w: &mut [u64], address: u64, first: u64, second: u64) -> Answer
-    ensures { λ r. ⌜ outcome r (now (w .exit)) ≡ guarded (now (w .entry)) (calls.queueInserted (now (w .entry)) address first second) ⌝ }
+    ensures { λ r. ⌜ outcome r (now (w .exit)) ≡ called (now (w .entry)) (call.InsertQueueDpc address first second) ⌝ }
 {
     if !form::in_form(w) {
         return Answer::Refused(27);
@@ -29,7 +29,7 @@ pub fn insert_queue_dpc(w: &mut [u64], address: u64, first: u64, second: u64) ->
 }
 
 pub fn remove_queue_dpc(w: &mut [u64], address: u64) -> Answer
-    ensures { λ r. ⌜ outcome r (now (w .exit)) ≡ guarded (now (w .entry)) (calls.queueRemoved (now (w .entry)) address) ⌝ }
+    ensures { λ r. ⌜ outcome r (now (w .exit)) ≡ called (now (w .entry)) (call.RemoveQueueDpc address) ⌝ }
 {
     if !form::in_form(w) {
         return Answer::Refused(27);
@@ -38,7 +38,7 @@ pub fn remove_queue_dpc(w: &mut [u64], address: u64) -> Answer
 }
 
 pub fn start_dpc(w: &mut [u64], address: u64) -> WorkAnswer
-    ensures { λ r. ⌜ calls.startOutcome r (now (w .exit)) ≡ guardedStart (now (w .entry)) (calls.workStarted (now (w .entry)) address) ⌝ }
+    ensures { λ r. ⌜ calls.startOutcome r (now (w .exit)) ≡ called (now (w .entry)) (call.StartDpc address) ⌝ }
 {
     if !form::in_form(w) {
         return WorkAnswer::Refused(27);
@@ -47,7 +47,7 @@ pub fn start_dpc(w: &mut [u64], address: u64) -> WorkAnswer
 }
 
 pub fn returned_dpc(w: &mut [u64], address: u64, sequence: u64) -> Answer
-    ensures { λ r. ⌜ outcome r (now (w .exit)) ≡ guarded (now (w .entry)) (calls.workReturned (now (w .entry)) address sequence) ⌝ }
+    ensures { λ r. ⌜ outcome r (now (w .exit)) ≡ called (now (w .entry)) (call.ReturnedDpc address sequence) ⌝ }
 {
     if !form::in_form(w) {
         return Answer::Refused(27);
@@ -56,7 +56,7 @@ pub fn returned_dpc(w: &mut [u64], address: u64, sequence: u64) -> Answer
 }
 
 pub fn restored_dpc(w: &mut [u64], address: u64, sequence: u64) -> Answer
-    ensures { λ r. ⌜ outcome r (now (w .exit)) ≡ guarded (now (w .entry)) (calls.workRestored (now (w .entry)) address sequence) ⌝ }
+    ensures { λ r. ⌜ outcome r (now (w .exit)) ≡ called (now (w .entry)) (call.RestoredDpc address sequence) ⌝ }
 {
     if !form::in_form(w) {
         return Answer::Refused(27);
@@ -65,7 +65,7 @@ pub fn restored_dpc(w: &mut [u64], address: u64, sequence: u64) -> Answer
 }
 
 pub fn dpc_initializations(w: &[u64]) -> Answer
-    ensures { λ r. ⌜ r ≡ readable (now (w .entry)) (read.initializationsRead (now (w .entry))) ⌝ }
+    ensures { λ r. ⌜ r ≡ called (now (w .entry)) (call.Reads call.DpcInitializations) ⌝ }
 {
     if !form::in_form(w) {
         return Answer::Refused(27);
@@ -75,7 +75,7 @@ pub fn dpc_initializations(w: &[u64]) -> Answer
 
 // The address of the DPC at a position in the queue, from 0 on.
 pub fn queued_dpcs(w: &[u64], position: u64) -> Answer
-    ensures { λ r. ⌜ r ≡ readable (now (w .entry)) (read.queuedDpcs (now (w .entry)) position) ⌝ }
+    ensures { λ r. ⌜ r ≡ called (now (w .entry)) (call.Reads (call.QueuedDpcs position)) ⌝ }
 {
     if !form::in_form(w) {
         return Answer::Refused(27);
@@ -84,7 +84,7 @@ pub fn queued_dpcs(w: &[u64], position: u64) -> Answer
 }
 
 pub fn dpc(w: &[u64], address: u64) -> DpcAnswer
-    ensures { λ r. ⌜ r ≡ dpcReadable (now (w .entry)) (read.dpcRead (now (w .entry)) address) ⌝ }
+    ensures { λ r. ⌜ r ≡ called (now (w .entry)) (call.Reads (call.DpcAt address)) ⌝ }
 {
     if !form::in_form(w) {
         return DpcAnswer::Refused(27);
@@ -94,7 +94,7 @@ pub fn dpc(w: &[u64], address: u64) -> DpcAnswer
 
 // The DPC at a position in the order of the addresses, from 0 on.
 pub fn dpcs(w: &[u64], position: u64) -> DpcAnswer
-    ensures { λ r. ⌜ r ≡ dpcReadable (now (w .entry)) (read.dpcsAt (now (w .entry)) position) ⌝ }
+    ensures { λ r. ⌜ r ≡ called (now (w .entry)) (call.Reads (call.Dpcs position)) ⌝ }
 {
     if !form::in_form(w) {
         return DpcAnswer::Refused(27);
@@ -104,7 +104,7 @@ pub fn dpcs(w: &[u64], position: u64) -> DpcAnswer
 
 // The DPC whose work is running or returning.
 pub fn active_dpc(w: &[u64]) -> DpcAnswer
-    ensures { λ r. ⌜ r ≡ dpcReadable (now (w .entry)) (read.activeDpc (now (w .entry))) ⌝ }
+    ensures { λ r. ⌜ r ≡ called (now (w .entry)) (call.Reads call.ActiveDpc) ⌝ }
 {
     if !form::in_form(w) {
         return DpcAnswer::Refused(27);
@@ -114,7 +114,7 @@ pub fn active_dpc(w: &[u64]) -> DpcAnswer
 
 // The DPC whose work may start.
 pub fn next_dpc(w: &[u64]) -> DpcAnswer
-    ensures { λ r. ⌜ r ≡ dpcReadable (now (w .entry)) (read.nextDpc (now (w .entry))) ⌝ }
+    ensures { λ r. ⌜ r ≡ called (now (w .entry)) (call.Reads call.NextDpc) ⌝ }
 {
     if !form::in_form(w) {
         return DpcAnswer::Refused(27);
@@ -123,7 +123,7 @@ pub fn next_dpc(w: &[u64]) -> DpcAnswer
 }
 
 pub fn dpc_policy(w: &[u64]) -> PolicyAnswer
-    ensures { λ r. ⌜ r ≡ policyReadable (now (w .entry)) (read.policyRead (now (w .entry))) ⌝ }
+    ensures { λ r. ⌜ r ≡ called (now (w .entry)) (call.Reads call.DpcPolicy) ⌝ }
 {
     if !form::in_form(w) {
         return PolicyAnswer::Refused(27);
@@ -132,7 +132,7 @@ pub fn dpc_policy(w: &[u64]) -> PolicyAnswer
 }
 
 pub fn dpc_counters(w: &[u64]) -> CountersAnswer
-    ensures { λ r. ⌜ r ≡ countersReadable (now (w .entry)) (read.countersRead (now (w .entry))) ⌝ }
+    ensures { λ r. ⌜ r ≡ called (now (w .entry)) (call.Reads call.DpcCounters) ⌝ }
 {
     if !form::in_form(w) {
         return CountersAnswer::Refused(27);

@@ -1,7 +1,10 @@
 // The images of timers and DPCs, at the start of an output of bytes; the answer is the size of the image.
 ghost use mathlib.Core.Path.{_≡_};
-ghost use Rattle.scheduler.specs.Guard.{imageRefused, guardedImage};
-ghost use Rattle.scheduler.specs.Images.{imaged, timerImaged, dpcImaged};
+ghost use lib.ListN.{length};
+ghost use Rattle.model.specs.Call as call;
+ghost use Rattle.calls.specs.Called.{called};
+ghost use Rattle.calls.specs.Guard.{imageRefused};
+ghost use Rattle.calls.specs.Images.{imaged, timerImaged, dpcImaged};
 use answers::Answer;
 use dpcs::record;
 
@@ -42,7 +45,7 @@ fn put_dpc(w: &[u64], address: u64, out: &mut [u8]) -> Answer
 }
 
 pub fn timer_image(w: &[u64], address: u64, out: &mut [u8]) -> Answer
-    ensures { λ r. ⌜ imaged r (now (out .exit)) ≡ guardedImage (now (w .entry)) (now (out .entry)) (timerImaged (now (w .entry)) address (now (out .entry))) ⌝ }
+    ensures { λ r. ⌜ imaged r (now (out .exit)) ≡ called (now (w .entry)) (call.Reads (call.TimerImage address (length (now (out .entry))))) (now (out .entry)) ⌝ }
 {
     if is_refused(w, out) {
         return Answer::Refused(27);
@@ -51,7 +54,7 @@ pub fn timer_image(w: &[u64], address: u64, out: &mut [u8]) -> Answer
 }
 
 pub fn dpc_image(w: &[u64], address: u64, out: &mut [u8]) -> Answer
-    ensures { λ r. ⌜ imaged r (now (out .exit)) ≡ guardedImage (now (w .entry)) (now (out .entry)) (dpcImaged (now (w .entry)) address (now (out .entry))) ⌝ }
+    ensures { λ r. ⌜ imaged r (now (out .exit)) ≡ called (now (w .entry)) (call.Reads (call.DpcImage address (length (now (out .entry))))) (now (out .entry)) ⌝ }
 {
     if is_refused(w, out) {
         return Answer::Refused(27);

@@ -1,14 +1,11 @@
 // The calls that read the words.
 ghost use mathlib.Core.Path.{_≡_};
-ghost use Rattle.kernel.specs.Thread as thread;
-ghost use Rattle.sync.specs.Mutexes as mutexes;
-ghost use Rattle.sync.specs.Events as events;
-ghost use Rattle.sync.specs.Release as release;
-ghost use Rattle.scheduler.specs.Guard.{readable};
+ghost use Rattle.model.specs.Call as call;
+ghost use Rattle.calls.specs.Called.{called};
 use answers::Answer;
 
 pub fn current(w: &[u64]) -> Answer
-    ensures { λ r. ⌜ r ≡ readable (now (w .entry)) (thread.currentAnswer (now (w .entry))) ⌝ }
+    ensures { λ r. ⌜ r ≡ called (now (w .entry)) (call.Reads call.Current) ⌝ }
 {
     if !form::in_form(w) {
         return Answer::Refused(27);
@@ -17,7 +14,7 @@ pub fn current(w: &[u64]) -> Answer
 }
 
 pub fn mutex_owner(w: &[u64], key: u64) -> Answer
-    ensures { λ r. ⌜ r ≡ readable (now (w .entry)) (mutexes.ownerAnswer (now (w .entry)) key) ⌝ }
+    ensures { λ r. ⌜ r ≡ called (now (w .entry)) (call.Reads (call.MutexOwner key)) ⌝ }
 {
     if !form::in_form(w) {
         return Answer::Refused(27);
@@ -26,7 +23,7 @@ pub fn mutex_owner(w: &[u64], key: u64) -> Answer
 }
 
 pub fn mutex_waiters(w: &[u64], key: u64) -> Answer
-    ensures { λ r. ⌜ r ≡ readable (now (w .entry)) (mutexes.waitersAnswer (now (w .entry)) key) ⌝ }
+    ensures { λ r. ⌜ r ≡ called (now (w .entry)) (call.Reads (call.MutexWaiters key)) ⌝ }
 {
     if !form::in_form(w) {
         return Answer::Refused(27);
@@ -35,7 +32,7 @@ pub fn mutex_waiters(w: &[u64], key: u64) -> Answer
 }
 
 pub fn event_state(w: &[u64], key: u64) -> Answer
-    ensures { λ r. ⌜ r ≡ readable (now (w .entry)) (events.eventState (now (w .entry)) key) ⌝ }
+    ensures { λ r. ⌜ r ≡ called (now (w .entry)) (call.Reads (call.EventState key)) ⌝ }
 {
     if !form::in_form(w) {
         return Answer::Refused(27);
@@ -44,7 +41,7 @@ pub fn event_state(w: &[u64], key: u64) -> Answer
 }
 
 pub fn event_states(w: &[u64], position: u64) -> Answer
-    ensures { λ r. ⌜ r ≡ readable (now (w .entry)) (release.eventStates (now (w .entry)) position) ⌝ }
+    ensures { λ r. ⌜ r ≡ called (now (w .entry)) (call.Reads (call.EventStates position)) ⌝ }
 {
     if !form::in_form(w) {
         return Answer::Refused(27);
@@ -53,7 +50,7 @@ pub fn event_states(w: &[u64], position: u64) -> Answer
 }
 
 pub fn require_event_release(w: &[u64], base: u64, size: u64, layout: u64) -> Answer
-    ensures { λ r. ⌜ r ≡ readable (now (w .entry)) (release.releaseAnswer (now (w .entry)) base size layout) ⌝ }
+    ensures { λ r. ⌜ r ≡ called (now (w .entry)) (call.Reads (call.RequireEventRelease base size layout)) ⌝ }
 {
     if !form::in_form(w) {
         return Answer::Refused(27);

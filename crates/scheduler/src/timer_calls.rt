@@ -1,11 +1,9 @@
 // Timers: made, set, cancelled, given back, and read. DPCs are made here too.
 ghost use mathlib.Core.Path.{_≡_};
+ghost use Rattle.model.specs.Call as call;
+ghost use Rattle.calls.specs.Called.{called};
 ghost use Rattle.answers.specs.Outcome.{outcome};
-ghost use Rattle.timers.specs.Initialize as initialize;
-ghost use Rattle.timers.specs.Arm as arm;
-ghost use Rattle.timers.specs.Release as release;
 ghost use Rattle.timers.specs.Reads as read;
-ghost use Rattle.scheduler.specs.Guard.{guarded, readable, timerReadable};
 use answers::Answer;
 use arch::Architecture;
 use images::TimerBacking;
@@ -18,7 +16,7 @@ pub fn initialize_timer(
     backing: TimerBacking,
     manual_reset: bool,
 ) -> Answer
-    ensures { λ r. ⌜ outcome r (now (w .exit)) ≡ guarded (now (w .entry)) (initialize.timerInitialized (now (w .entry)) address architecture backing «manual_reset») ⌝ }
+    ensures { λ r. ⌜ outcome r (now (w .exit)) ≡ called (now (w .entry)) (call.InitializeTimer address architecture backing «manual_reset») ⌝ }
 {
     if !form::in_form(w) {
         return Answer::Refused(27);
@@ -34,7 +32,7 @@ pub fn initialize_dpc(
     routine: u64,
     context: u64,
 ) -> Answer
-    ensures { λ r. ⌜ outcome r (now (w .exit)) ≡ guarded (now (w .entry)) (initialize.dpcInitialized (now (w .entry)) address architecture backing routine context) ⌝ }
+    ensures { λ r. ⌜ outcome r (now (w .exit)) ≡ called (now (w .entry)) (call.InitializeDpc address architecture backing routine context) ⌝ }
 {
     if !form::in_form(w) {
         return Answer::Refused(27);
@@ -50,7 +48,7 @@ pub fn set_timer(
     period: i32,
     dpc: u64,
 ) -> Answer
-    ensures { λ r. ⌜ outcome r (now (w .exit)) ≡ guarded (now (w .entry)) (arm.timerSet (now (w .entry)) address due absolute period dpc) ⌝ }
+    ensures { λ r. ⌜ outcome r (now (w .exit)) ≡ called (now (w .entry)) (call.SetTimer address due absolute period dpc) ⌝ }
 {
     if !form::in_form(w) {
         return Answer::Refused(27);
@@ -58,8 +56,18 @@ pub fn set_timer(
     timers::arm::set_timer(w, address, due, absolute, period, dpc)
 }
 
+// A due of -d is d ticks from now; a due that is not negative is a time.
+pub fn set_timer_signed(w: &mut [u64], address: u64, due: i64, period: i32, dpc: u64) -> Answer
+    ensures { λ r. ⌜ outcome r (now (w .exit)) ≡ called (now (w .entry)) (call.SetTimerSigned address due period dpc) ⌝ }
+{
+    if !form::in_form(w) {
+        return Answer::Refused(27);
+    }
+    timers::arm::set_timer_signed(w, address, due, period, dpc)
+}
+
 pub fn cancel_timer(w: &mut [u64], address: u64) -> Answer
-    ensures { λ r. ⌜ outcome r (now (w .exit)) ≡ guarded (now (w .entry)) (arm.timerCancelled (now (w .entry)) address) ⌝ }
+    ensures { λ r. ⌜ outcome r (now (w .exit)) ≡ called (now (w .entry)) (call.CancelTimer address) ⌝ }
 {
     if !form::in_form(w) {
         return Answer::Refused(27);
@@ -68,7 +76,7 @@ pub fn cancel_timer(w: &mut [u64], address: u64) -> Answer
 }
 
 pub fn retire_timer_backing(w: &mut [u64], address: u64, size: u64) -> Answer
-    ensures { λ r. ⌜ outcome r (now (w .exit)) ≡ guarded (now (w .entry)) (release.timersRetired (now (w .entry)) address size) ⌝ }
+    ensures { λ r. ⌜ outcome r (now (w .exit)) ≡ called (now (w .entry)) (call.RetireTimerBacking address size) ⌝ }
 {
     if !form::in_form(w) {
         return Answer::Refused(27);
@@ -77,7 +85,7 @@ pub fn retire_timer_backing(w: &mut [u64], address: u64, size: u64) -> Answer
 }
 
 pub fn require_timer_release(w: &[u64], address: u64, size: u64) -> Answer
-    ensures { λ r. ⌜ r ≡ readable (now (w .entry)) (release.timerRelease (now (w .entry)) address size) ⌝ }
+    ensures { λ r. ⌜ r ≡ called (now (w .entry)) (call.Reads (call.RequireTimerRelease address size)) ⌝ }
 {
     if !form::in_form(w) {
         return Answer::Refused(27);
@@ -86,7 +94,7 @@ pub fn require_timer_release(w: &[u64], address: u64, size: u64) -> Answer
 }
 
 pub fn timer_initializations(w: &[u64]) -> Answer
-    ensures { λ r. ⌜ r ≡ readable (now (w .entry)) (read.timerInitializations (now (w .entry))) ⌝ }
+    ensures { λ r. ⌜ r ≡ called (now (w .entry)) (call.Reads call.TimerInitializations) ⌝ }
 {
     if !form::in_form(w) {
         return Answer::Refused(27);
@@ -95,7 +103,7 @@ pub fn timer_initializations(w: &[u64]) -> Answer
 }
 
 pub fn timer_read_overlap(w: &[u64], address: u64, size: u64) -> Answer
-    ensures { λ r. ⌜ r ≡ readable (now (w .entry)) (read.readOverlap (now (w .entry)) address size) ⌝ }
+    ensures { λ r. ⌜ r ≡ called (now (w .entry)) (call.Reads (call.TimerReadOverlap address size)) ⌝ }
 {
     if !form::in_form(w) {
         return Answer::Refused(27);
@@ -104,7 +112,7 @@ pub fn timer_read_overlap(w: &[u64], address: u64, size: u64) -> Answer
 }
 
 pub fn timer_metadata_overlap(w: &[u64], address: u64, size: u64) -> Answer
-    ensures { λ r. ⌜ r ≡ readable (now (w .entry)) (read.metadataOverlap (now (w .entry)) address size) ⌝ }
+    ensures { λ r. ⌜ r ≡ called (now (w .entry)) (call.Reads (call.TimerMetadataOverlap address size)) ⌝ }
 {
     if !form::in_form(w) {
         return Answer::Refused(27);
@@ -113,7 +121,7 @@ pub fn timer_metadata_overlap(w: &[u64], address: u64, size: u64) -> Answer
 }
 
 pub fn timer(w: &[u64], address: u64) -> TimerAnswer
-    ensures { λ r. ⌜ r ≡ timerReadable (now (w .entry)) (read.timerRead (now (w .entry)) address) ⌝ }
+    ensures { λ r. ⌜ r ≡ called (now (w .entry)) (call.Reads (call.TimerAt address)) ⌝ }
 {
     if !form::in_form(w) {
         return TimerAnswer::Refused(27);
@@ -123,7 +131,7 @@ pub fn timer(w: &[u64], address: u64) -> TimerAnswer
 
 // The timer at a position in the order of the keys, from 0 on.
 pub fn timers(w: &[u64], position: u64) -> TimerAnswer
-    ensures { λ r. ⌜ r ≡ timerReadable (now (w .entry)) (read.timersAt (now (w .entry)) position) ⌝ }
+    ensures { λ r. ⌜ r ≡ called (now (w .entry)) (call.Reads (call.Timers position)) ⌝ }
 {
     if !form::in_form(w) {
         return TimerAnswer::Refused(27);
@@ -133,7 +141,7 @@ pub fn timers(w: &[u64], position: u64) -> TimerAnswer
 
 // The first inserted timer that has a DPC.
 pub fn pending_timer_dpc(w: &[u64]) -> TimerAnswer
-    ensures { λ r. ⌜ r ≡ timerReadable (now (w .entry)) (read.pendingRead (now (w .entry))) ⌝ }
+    ensures { λ r. ⌜ r ≡ called (now (w .entry)) (call.Reads call.PendingTimerDpc) ⌝ }
 {
     if !form::in_form(w) {
         return TimerAnswer::Refused(27);

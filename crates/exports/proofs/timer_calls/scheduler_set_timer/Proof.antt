@@ -1,8 +1,8 @@
 use mathlib.Core.Path.{_∙_}
 use denote.Ref.{now}
 use mir.Facts.{toZ-ofZ}
-use Rattle.timers.specs.Arm as arm
-use Rattle.scheduler.specs.Guard.{guarded}
+use Rattle.model.specs.Call as call
+use Rattle.calls.specs.Called.{called}
 use Rattle.exports.specs.SchedulerAnswer.{given, truth}
 use Rattle.exports.proofs.AnswerLaws.{changed-short, changed-by}
 use borrow.Author.Needs.{needs}
@@ -28,7 +28,7 @@ returns-2 : tie.Need-returns-2
 returns-2 c =
     (λ i. given ((c .before .before .put-answer .ensures .0) i) (c .before .before .before .before .before .before .set-timer .last .0) ((c .before .before .put-answer .ensures .1) i))
     ∙ changed-by (now (c .before .before .before .before .before .before .before .before .before .before .before .args .words)) (now (c .before .before .before .before .before .before .before .before .before .before .before .args .out)) _ (c .before .before .before .before .before .before .set-timer .result) (c .before .before .before .before .before .before .set-timer .last .0) (c .before .before .before .before .before .before .before .before .if1 .left)
-    (c .before .before .before .before .before .before .set-timer .ensures ∙ (λ i. guarded (now (c .before .before .before .before .before .before .before .before .before .before .before .args .words)) (arm.timerSet (now (c .before .before .before .before .before .before .before .before .before .before .before .args .words)) (c .before .before .before .before .before .before .before .before .before .before .before .args .address) (c .before .before .before .before .before .before .before .before .before .before .before .args .due) (truth (c .before .before .before .before .before .before .before .before .before .before .before .args .absolute)) ((toZ-ofZ (c .before .before .before .before .before .before .before .before .before .before .before .fits .period)) i) (c .before .before .before .before .before .before .before .before .before .before .before .args .dpc))))
+    (c .before .before .before .before .before .before .set-timer .ensures ∙ (λ i. called (now (c .before .before .before .before .before .before .before .before .before .before .before .args .words)) (call.SetTimer (c .before .before .before .before .before .before .before .before .before .before .before .args .address) (c .before .before .before .before .before .before .before .before .before .before .before .args .due) (truth (c .before .before .before .before .before .before .before .before .before .before .before .args .absolute)) ((toZ-ofZ (c .before .before .before .before .before .before .before .before .before .before .before .fits .period)) i) (c .before .before .before .before .before .before .before .before .before .before .before .args .dpc))))
 
 pub scheduler-set-timer-spec : {M : Type 1} → statement M
 scheduler-set-timer-spec =

@@ -7,8 +7,6 @@ use Rattle.exports.proofs.timer_calls.scheduler_timer_metadata_overlap.
   statement,
 }
 use Rattle.exports.proofs.timer_calls.scheduler_timer_metadata_overlap.Tie as tie
-use Rattle.exports.proofs.timer_calls.scheduler_timer_metadata_overlap.Reads as reads
-use Rattle.exports.proofs.timer_calls.scheduler_timer_metadata_overlap.Lts as lts
 
 returns : tie.Need-returns
 returns c = read-short (now (c .before .before .before .args .words)) (now (c .before .before .before .args .out)) _ (c .if1 .taken)

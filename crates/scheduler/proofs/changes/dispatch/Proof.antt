@@ -1,6 +1,7 @@
 use mathlib.Core.Path.{_∙_, sym}
 use borrow.Author.Tests.{not-true, not-false}
-use Rattle.scheduler.specs.Guard.{guardedDispatch}
+use Rattle.calls.specs.Guard.{guardedDispatch}
+use Rattle.calls.specs.Called.{called}
 use borrow.Author.Needs.{needs}
 use Rattle.scheduler.proofs.changes.dispatch.Statement.{statement}
 use Rattle.scheduler.proofs.changes.dispatch.Tie as tie
@@ -12,7 +13,7 @@ same-length : tie.Need-same-length
 same-length c = search needs
 
 returns : tie.Need-returns
-unfolding guardedDispatch
+unfolding called guardedDispatch
 returns c = simp (sym (c .before .in-form .ensures) ∙ not-true _ (c .if1 .taken))
 
 dispatch-requires : tie.Need-dispatch-requires
@@ -25,7 +26,7 @@ same-length-3 : tie.Need-same-length-3
 same-length-3 c = search needs
 
 returns-2 : tie.Need-returns-2
-unfolding guardedDispatch
+unfolding called guardedDispatch
 returns-2 c = simp (sym (c .before .before .before .before .before .before .before .before .in-form .ensures) ∙ not-false _ (c .before .before .before .before .before .before .before .if1 .left)) (cc)
 
 pub dispatch-spec : {M : Type 1} → statement M

@@ -1,6 +1,7 @@
 use mathlib.Core.Path.{_∙_, sym}
 use borrow.Author.Tests.{not-true, not-false}
-use Rattle.scheduler.specs.Guard.{policyReadable}
+use Rattle.calls.specs.Guard.{policyReadable}
+use Rattle.calls.specs.Called.{called, readCalled}
 use borrow.Author.Needs.{needs}
 use Rattle.scheduler.proofs.dpc_calls.dpc_policy.Statement.{statement}
 use Rattle.scheduler.proofs.dpc_calls.dpc_policy.Tie as tie
@@ -9,14 +10,14 @@ in-form-requires : tie.Need-in-form-requires
 in-form-requires c κs = search needs
 
 returns : tie.Need-returns
-unfolding policyReadable
+unfolding called readCalled policyReadable
 returns c = simp (sym (c .before .in-form .ensures) ∙ not-true _ (c .if1 .taken))
 
 dpc-policy-requires : tie.Need-dpc-policy-requires
 dpc-policy-requires c κs = search needs
 
 returns-2 : tie.Need-returns-2
-unfolding policyReadable
+unfolding called readCalled policyReadable
 returns-2 c = simp (sym (c .before .before .in-form .ensures) ∙ not-false _ (c .before .if1 .left)) (cc)
 
 pub dpc-policy-spec : {M : Type 1} → statement M

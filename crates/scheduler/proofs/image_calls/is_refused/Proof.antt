@@ -1,6 +1,6 @@
 use mathlib.Core.Path.{_∙_, sym}
 use borrow.Author.Tests.{not-true, not-false}
-use Rattle.scheduler.specs.Guard.{imageRefused}
+use Rattle.calls.specs.Guard.{imageRefused}
 use borrow.Author.Needs.{needs}
 use Rattle.scheduler.proofs.image_calls.is_refused.Statement.{statement}
 use Rattle.scheduler.proofs.image_calls.is_refused.Tie as tie

@@ -1,5 +1,5 @@
 use borrow.Author.Tests.{eq-eqb, ne-eqb}
-use Rattle.scheduler.specs.Images.{dpcImaged}
+use Rattle.calls.specs.Images.{dpcImaged}
 use borrow.Author.Needs.{needs}
 use Rattle.scheduler.proofs.image_calls.put_dpc.Statement.{statement}
 use Rattle.scheduler.proofs.image_calls.put_dpc.Tie as tie

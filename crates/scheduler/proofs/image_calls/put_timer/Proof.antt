@@ -1,5 +1,5 @@
 use borrow.Author.Tests.{eq-eqb, ne-eqb}
-use Rattle.scheduler.specs.Images.{timerImaged}
+use Rattle.calls.specs.Images.{timerImaged}
 use borrow.Author.Needs.{needs}
 use Rattle.scheduler.proofs.image_calls.put_timer.Statement.{statement}
 use Rattle.scheduler.proofs.image_calls.put_timer.Tie as tie

@@ -1,7 +1,8 @@
 use mir.Facts.{toZ-ofZ}
 use mathlib.Core.Path.{_∙_, sym}
 use borrow.Author.Tests.{not-true, not-false}
-use Rattle.scheduler.specs.Guard.{guarded}
+use Rattle.calls.specs.Guard.{guarded}
+use Rattle.calls.specs.Called.{called}
 use borrow.Author.Needs.{needs}
 use Rattle.scheduler.proofs.timer_calls.set_timer.Statement.{statement}
 use Rattle.scheduler.proofs.timer_calls.set_timer.Tie as tie
@@ -13,7 +14,7 @@ same-length : tie.Need-same-length
 same-length c = search needs
 
 returns : tie.Need-returns
-unfolding guarded
+unfolding called guarded
 returns c = simp (sym (c .before .in-form .ensures) ∙ not-true _ (c .if1 .taken))
 
 set-timer-requires : tie.Need-set-timer-requires
@@ -23,7 +24,7 @@ same-length-2 : tie.Need-same-length-2
 same-length-2 c = search needs
 
 returns-2 : tie.Need-returns-2
-unfolding guarded
+unfolding called guarded
 returns-2 c = simp (sym (c .before .before .before .before .before .in-form .ensures) ∙ not-false _ (c .before .before .before .before .if1 .left)) (cc (toZ-ofZ (c .before .before .before .before .before .before .before .before .fits .period)))
 
 pub set-timer-spec : {M : Type 1} → statement M

@@ -1,2 +1,4 @@
 pub mod Guard
 pub mod Images
+pub mod Called
+pub mod Run

@@ -1,0 +1,1 @@
+// No code: what each call does to a scheduler's words is in specs/.
