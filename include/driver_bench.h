@@ -50,7 +50,7 @@ enum bench_refusal {
     BENCH_OWNER = 10,         /* another owner, or an exit while owning */
     BENCH_EXITED = 11,        /* the thread has exited */
     BENCH_TIME_BACK = 12,     /* time goes back */
-    BENCH_DUE_PAST_END = 13,  /* the next due passes 2^64 - 1 */
+    BENCH_DUE_PAST_END = 13,  /* a due passes 2^64 - 1 */
     BENCH_LIFETIME = 14,      /* 65,536 initializations or acceptances */
     BENCH_LOCATION = 15,      /* a bad location for a timer or a DPC */
     BENCH_OVERLAP = 16,       /* its bytes are another's too */
@@ -92,7 +92,7 @@ enum bench_tag {
     BENCH_DISPATCH_POLICY = 18, /* 1 and 2 the arguments of a timer's work */
     BENCH_COUNTERS = 19,    /* 1 accepted, 2 duplicates, 3 removed, 4 started, 5 returned, 6 restored */
     BENCH_THREAD_RECORD = 20, /* 1 number, 2 priority, 3 state, 4 result (0 none, 1 timeout, else 2 + index), 5 status if exited;
-                                 if waiting 6 all, 7 timed, 8 deadline if timed, 9 sequence, 10 how many objects */
+                                 if waiting 6 all, 7 timed, 8 deadline if timed, 9 sequence, 10 how many objects, else these are 0 */
     BENCH_OBJECT = 21       /* 1 kind, 2 key */
 };
 
@@ -137,7 +137,7 @@ uint64_t scheduler_terminate(uint64_t *words, size_t length, uint32_t status, ui
 /* BENCH_THREAD_RECORD or BENCH_NONE; position 0 is thread 1. */
 uint64_t scheduler_thread(const uint64_t *words, size_t length, uint64_t id, uint64_t *out, size_t out_length);
 uint64_t scheduler_threads(const uint64_t *words, size_t length, uint64_t position, uint64_t *out, size_t out_length);
-/* BENCH_OBJECT or BENCH_NONE: an object in the list of a thread that waits. */
+/* BENCH_OBJECT or BENCH_NONE: an object in the list of a thread that waits; of another BENCH_NONE. */
 uint64_t scheduler_waited_object(const uint64_t *words, size_t length, uint64_t id, uint64_t position, uint64_t *out, size_t out_length);
 
 /* ---- Mutexes ---- */
@@ -184,6 +184,8 @@ uint64_t scheduler_dispatch(uint64_t *words, size_t length, uint64_t *waiting, s
 uint64_t scheduler_initialize_timer(uint64_t *words, size_t length, uint64_t address, uint64_t architecture, uint64_t backing, uint64_t base, uint64_t size, uint64_t mapped, uint64_t manual, uint64_t *out, size_t out_length);
 /* BENCH_FLAG: whether it was inserted. The period is in milliseconds, 0 for once; a DPC of 0 is none. */
 uint64_t scheduler_set_timer(uint64_t *words, size_t length, uint64_t address, uint64_t due, uint64_t absolute, int32_t period, uint64_t dpc, uint64_t *out, size_t out_length);
+/* BENCH_FLAG: whether it was inserted. A due of -d is d ticks from now, any other a time; the rest as above. */
+uint64_t scheduler_set_timer_signed(uint64_t *words, size_t length, uint64_t address, int64_t due, int32_t period, uint64_t dpc, uint64_t *out, size_t out_length);
 /* BENCH_FLAG: whether it was inserted. */
 uint64_t scheduler_cancel_timer(uint64_t *words, size_t length, uint64_t address, uint64_t *out, size_t out_length);
 /* BENCH_DONE. Timers and DPCs that the memory overlaps go. */

@@ -1,4 +1,4 @@
-/* Two runs on the proved bench: the example of document 01, and a timer whose DPC sets the event that a thread waits for. */
+/* Three runs on the proved bench: the example of document 01, a timer whose DPC sets the event that a thread waits for, and signed dues. */
 #include "driver_bench.h"
 #include <inttypes.h>
 #include <stdio.h>
@@ -71,6 +71,23 @@ static void overload(void)
     printf("\n");
 }
 
+static void signed_dues(void)
+{
+    const uint64_t timer = 8192, base = 8192, size = 64;
+    told("open", scheduler_open(W, 8, THREADS, OBJECTS, DPCS, O), 0);
+    told("initialize_timer", scheduler_initialize_timer(W, timer, BENCH_X64, BENCH_IMAGE, base, size, 0, 0, O), 0);
+    told("advance_to", scheduler_advance_to(W, 50, O), 0);
+    told("set_timer_signed -100", scheduler_set_timer_signed(W, timer, -100, 0, 0, O), 1);
+    told("timer", scheduler_timer(W, timer, O), 15);
+    told("set_timer_signed 400", scheduler_set_timer_signed(W, timer, 400, 0, 0, O), 1);
+    told("timer", scheduler_timer(W, timer, O), 15);
+    told("set_timer_signed -2^63", scheduler_set_timer_signed(W, timer, INT64_MIN, 0, 0, O), 1);
+    told("timer", scheduler_timer(W, timer, O), 15);
+    told("advance_to 2^63", scheduler_advance_to(W, (uint64_t)1 << 63, O), 0);
+    told("set_timer_signed -2^63", scheduler_set_timer_signed(W, timer, INT64_MIN, 0, 0, O), 1);
+    told("with a period of -1", scheduler_set_timer_signed(W, timer, INT64_MIN, -1, 0, O), 1);
+}
+
 static void time_passes(void)
 {
     uint64_t clock[BENCH_CLOCK_WORDS], qpc;
@@ -90,6 +107,8 @@ int main(void)
     document();
     printf("\n");
     overload();
+    printf("\n");
+    signed_dues();
     printf("\n");
     time_passes();
     return 0;

@@ -185,6 +185,16 @@ unsafe extern "C" {
         o: *mut u64,
         m: usize,
     ) -> u64;
+    pub fn scheduler_set_timer_signed(
+        w: *mut u64,
+        n: usize,
+        address: u64,
+        due: i64,
+        period: i32,
+        dpc: u64,
+        o: *mut u64,
+        m: usize,
+    ) -> u64;
     pub fn scheduler_cancel_timer(
         w: *mut u64,
         n: usize,

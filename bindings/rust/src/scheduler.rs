@@ -91,7 +91,7 @@ impl SchedulerError {
             10 => "the owner is another, or none that lives, or would exit",
             11 => "the thread has exited",
             12 => "time goes back",
-            13 => "the next due passes 2^64 - 1",
+            13 => "a due passes 2^64 - 1",
             14 => "65,536 initializations or acceptances have been",
             15 => "a timer or a DPC cannot stand there",
             16 => "the bytes are another's too",

@@ -1,4 +1,4 @@
-//! What is this crate's own: the numbers of refusals, and limits.
+//! What is this crate's own: the numbers of refusals, limits, and the signed due.
 use driver_bench::*;
 
 const IMAGE: TimerBacking = TimerBacking::Image {
@@ -79,6 +79,36 @@ fn refusals() {
         error.to_string(),
         "Kernel scheduler: the list has none, over 64, or one twice (7)"
     );
+}
+
+#[test]
+fn signed_dues() {
+    const TIMER: u64 = 0x1000;
+    const UNKNOWN: u64 = 0x1040;
+    let mut bench = small();
+    bench
+        .initialize_timer(TIMER, Architecture::X64, IMAGE, false)
+        .unwrap();
+    bench.advance_to(50).unwrap();
+    let due = |bench: &Scheduler| {
+        let timer = bench.timer(TIMER).unwrap();
+        (timer.due, timer.absolute)
+    };
+    assert!(!bench.set_timer_signed(TIMER, -100, 0, 0).unwrap());
+    assert_eq!(due(&bench), (150, false));
+    assert!(bench.set_timer_signed(TIMER, 400, 7, 0).unwrap());
+    assert_eq!(due(&bench), (400, true));
+    assert_eq!(bench.timer(TIMER).unwrap().period_ms, 7);
+    assert!(bench.set_timer_signed(TIMER, i64::MIN, 0, 0).unwrap());
+    assert_eq!(due(&bench), ((1 << 63) + 50, false));
+    bench.advance_to(1 << 63).unwrap();
+    assert_eq!(number(bench.set_timer_signed(TIMER, i64::MIN, 0, 0)), 13);
+    assert_eq!(number(bench.set_timer_signed(TIMER, i64::MIN, -1, 0)), 17);
+    assert_eq!(number(bench.set_timer_signed(UNKNOWN, i64::MIN, 0, 0)), 13);
+    assert_eq!(number(bench.set_timer_signed(UNKNOWN, -1, 0, 0)), 2);
+    assert_eq!(due(&bench), ((1 << 63) + 50, false));
+    assert!(bench.set_timer_signed(TIMER, i64::MIN + 1, 0, 0).unwrap());
+    assert_eq!(due(&bench), (u64::MAX, false));
 }
 
 #[test]

@@ -121,6 +121,13 @@ pub enum Call {
         period: i32,
         dpc: u64,
     },
+    /// Added: the original has no such call.
+    SetTimerSigned {
+        address: u64,
+        due: i64,
+        period: i32,
+        dpc: u64,
+    },
     CancelTimer {
         address: u64,
     },
@@ -215,6 +222,7 @@ impl Call {
             Self::Dispatch => "dispatch",
             Self::InitializeTimer { .. } => "initialize_timer",
             Self::SetTimer { .. } => "set_timer",
+            Self::SetTimerSigned { .. } => "set_timer_signed",
             Self::CancelTimer { .. } => "cancel_timer",
             Self::RequireTimerRelease(_) => "require_timer_release",
             Self::RetireTimerBacking(_) => "retire_timer_backing",

@@ -78,7 +78,7 @@ impl Life<'_> {
             {
                 self.step(Step::Put(put))?;
             }
-            let call = self.draw.call(self.both.state(), self.both.limits());
+            let call = self.draw.any_call(self.both.state(), self.both.limits());
             let lent = self.lengths(&call);
             self.call(call, lent, tallies)?;
             if self.random.once_in(scene.survey) {
@@ -171,7 +171,7 @@ impl Life<'_> {
             None => tallies.in_form += 1,
         }
         for _ in 0..DAMAGED_CALLS {
-            let call = self.draw.call(self.both.state(), self.both.limits());
+            let call = self.draw.any_call(self.both.state(), self.both.limits());
             let lent = Lengths {
                 waiting: WAITING,
                 ..Lengths::needed(self.both.limits(), &call)

@@ -75,6 +75,21 @@ impl<'a> Draw<'a> {
         }
     }
 
+    /// A call, those among them that the scripts and the benchmark leave out: the setting of a timer
+    /// by a signed due, and what a thread waits for that does not wait.
+    pub fn any_call(&self, state: &State, limits: Limits) -> Call {
+        match self.call(state, limits) {
+            Call::SetTimer { .. } if self.random.once_in(4) => self.set_timer_signed(state),
+            Call::Thread { id } if state.is_not_waiting(id) && self.random.once_in(2) => {
+                Call::WaitedObject {
+                    id,
+                    position: self.position(2),
+                }
+            }
+            call => call,
+        }
+    }
+
     pub fn call(&self, state: &State, limits: Limits) -> Call {
         let random = self.random;
         if state.is_new() && random.once_in(2) {
@@ -173,7 +188,7 @@ impl<'a> Draw<'a> {
                 position: self.position(state.threads.len()),
             },
             1 => Call::Thread { id },
-            _ if state.waits_no_more(id) => Call::Thread { id },
+            _ if state.is_not_waiting(id) => Call::Thread { id },
             _ => Call::WaitedObject {
                 id,
                 position: self.position(waited.map_or(0, |list| list.len() / 2)),

@@ -7,6 +7,7 @@ use super::{Call, view};
 use emumee::scheduler::{
     Dispatch, Object, Scheduler, SchedulerError, ThreadState, WaitOutcome, WaitResult,
 };
+pub use timers::signed_due;
 
 /// The objects of a wait, as the original takes them; nothing for a list that it cannot be given.
 pub fn objects(call: &Call) -> Option<Vec<Object>> {

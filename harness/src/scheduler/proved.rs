@@ -3,6 +3,7 @@ mod timers;
 
 use super::Call;
 use crate::ffi::*;
+pub use timers::numbers;
 
 /// What a call is lent. The slices are apart.
 pub struct Lent<'a> {
@@ -87,7 +88,7 @@ pub fn proved(lent: Lent, call: &Call) -> u64 {
 }
 
 /// A truth value as a number: 0 for no, and any other for yes, by the number that comes with it.
-fn yes(flag: bool, beside: u64) -> u64 {
+pub fn yes(flag: bool, beside: u64) -> u64 {
     let numbers = [1, 1, 2, 1 << 32, u64::MAX];
     match flag {
         false => 0,

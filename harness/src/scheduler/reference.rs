@@ -1,8 +1,8 @@
 //! The original scheduler, and what must be answered: its answer, or document 01's where the
 //! original has no such call or limit.
 use super::answer::{self, Answer, IMAGE_BYTES};
-use super::original::{objects, original};
-use super::refusals::{self, FORM, FULL, LIST, NO_CURRENT, PRIORITY};
+use super::original::{objects, original, signed_due};
+use super::refusals::{self, DUE_PAST_END, FORM, FULL, LIST, NO_CURRENT, PERIOD, PRIORITY};
 use super::state::State;
 use super::view;
 use super::{Call, Limits};
@@ -150,6 +150,11 @@ impl Reference {
             }
             Call::AdoptMutex { key, owned, owner } if !owned || self.is_live(owner) => {
                 self.has_no_room(key).then_some(FULL)
+            }
+            Call::SetTimerSigned { period, .. } if period < 0 => Some(PERIOD),
+            Call::SetTimerSigned { due, .. } => {
+                let due = signed_due(*self.scheduler.now_mut(), due);
+                due.is_none().then_some(DUE_PAST_END)
             }
             Call::Wait { .. } if objects(call).is_none() => match self.scheduler.current() {
                 None => Some(NO_CURRENT),

@@ -6,7 +6,9 @@ pub const UNKNOWN: u64 = 2;
 pub const NO_CURRENT: u64 = 3;
 pub const FULL: u64 = 4;
 pub const LIST: u64 = 7;
+pub const DUE_PAST_END: u64 = 13;
 const LIFETIME: u64 = 14;
+pub const PERIOD: u64 = 17;
 pub const FORM: u64 = 27;
 
 /// The refusals of a call besides 27, by the original's messages.
@@ -39,6 +41,12 @@ const SHORT_POOL: (&str, u64) = ("timer/DPC Pool extent mismatch", 15);
 const OUTSIDE: (&str, u64) = ("timer/DPC location outside backing/guest width", 15);
 const OVERLAP: (&str, u64) = ("timer/DPC dispatcher backing collision", 16);
 const SHARED_DPC: (&str, u64) = ("multiple active timers share one DPC", 18);
+const ARM_BUSY: (&str, u64) = ("timer rearm overlaps queued/running DPC work", 19);
+const PRIOR_BUSY: (&str, u64) = (
+    "timer replacement overlaps prior queued/running DPC work",
+    19,
+);
+const NO_ARM: (&str, u64) = ("timer arm generation exhausted", 24);
 const OTHER_ORIGIN: (&str, u64) = ("DPC queued work has ambiguous timer/caller origin", 21);
 const NO_DUPLICATE: (&str, u64) = ("DPC observation counter overflow", 24);
 const RUNS: (&str, u64) = (
@@ -131,7 +139,7 @@ pub const TABLE: &[(&str, Messages)] = &[
         &[
             ("guest time moved backwards", 12),
             ("due timer DPC requires callback scheduling", 20),
-            ("periodic timer horizon overflow", 13),
+            ("periodic timer horizon overflow", DUE_PAST_END),
             NO_DUPLICATE,
             OTHER_ORIGIN,
             RUNS,
@@ -168,16 +176,24 @@ pub const TABLE: &[(&str, Messages)] = &[
     (
         "set_timer",
         &[
-            ("negative timer period", 17),
+            ("negative timer period", PERIOD),
             UNKNOWN_DPC,
             SHARED_DPC,
-            ("timer rearm overlaps queued/running DPC work", 19),
-            (
-                "timer replacement overlaps prior queued/running DPC work",
-                19,
-            ),
+            ARM_BUSY,
+            PRIOR_BUSY,
             UNKNOWN_TIMER,
-            ("timer arm generation exhausted", 24),
+            NO_ARM,
+        ],
+    ),
+    (
+        "set_timer_signed",
+        &[
+            UNKNOWN_DPC,
+            SHARED_DPC,
+            ARM_BUSY,
+            PRIOR_BUSY,
+            UNKNOWN_TIMER,
+            NO_ARM,
         ],
     ),
     ("cancel_timer", &[UNKNOWN_TIMER]),

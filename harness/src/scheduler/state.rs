@@ -145,7 +145,7 @@ impl State {
     }
 
     /// Whether there is such a thread, and it does not wait.
-    pub fn waits_no_more(&self, id: u64) -> bool {
+    pub fn is_not_waiting(&self, id: u64) -> bool {
         (1..=self.threads.len() as u64).contains(&id) && self.waited(id).is_none()
     }
 

@@ -295,6 +295,20 @@ impl Scheduler {
         .map(flag)
     }
 
+    /// Added: the Rust bench has no such method. A due of -d is d ticks from now, any other a time.
+    pub fn set_timer_signed(
+        &mut self,
+        address: u64,
+        due: i64,
+        period: i32,
+        dpc: u64,
+    ) -> Result<bool> {
+        self.change(|w, n, o, m| unsafe {
+            scheduler_set_timer_signed(w, n, address, due, period, dpc, o, m)
+        })
+        .map(flag)
+    }
+
     pub fn cancel_timer(&mut self, address: u64) -> Result<bool> {
         self.change(|w, n, o, m| unsafe { scheduler_cancel_timer(w, n, address, o, m) })
             .map(flag)

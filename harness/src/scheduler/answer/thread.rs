@@ -57,17 +57,18 @@ impl ThreadView {
         }
     }
 
+    /// The words of a wait are 0 where it has none.
     pub(super) fn words(&self) -> Vec<Option<u64>> {
-        let wait = self.wait.as_ref();
+        let wait = |word: fn(&WaitView) -> Option<u64>| self.wait.as_ref().map_or(Some(0), word);
         let known = [20, self.id, self.priority, self.state, self.result];
         let mut words: Vec<Option<u64>> = known.into_iter().map(Some).collect();
         words.extend([
             self.status,
-            wait.map(|wait| wait.all.into()),
-            wait.map(|wait| wait.deadline.is_some().into()),
-            wait.and_then(|wait| wait.deadline),
-            wait.map(|wait| wait.sequence),
-            wait.map(|wait| wait.count),
+            wait(|wait| Some(wait.all.into())),
+            wait(|wait| Some(wait.deadline.is_some().into())),
+            wait(|wait| wait.deadline),
+            wait(|wait| Some(wait.sequence)),
+            wait(|wait| Some(wait.count)),
         ]);
         words
     }

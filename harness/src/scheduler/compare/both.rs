@@ -84,8 +84,7 @@ impl Both {
         self.reference.message()
     }
 
-    /// What a call answered; nothing for another step. A difference is an error. What a thread that
-    /// waits no more waits for is not asked.
+    /// What a call answered; nothing for another step. A difference is an error.
     pub fn step(&mut self, step: &Step) -> Result<Option<Answer>, String> {
         match step {
             Step::Call { call, lent } => return self.call(call, *lent).map(Some),
@@ -119,11 +118,6 @@ impl Both {
     }
 
     fn call(&mut self, call: &Call, lent: Lengths) -> Result<Answer, String> {
-        if let Call::WaitedObject { id, .. } = call
-            && self.state.waits_no_more(*id)
-        {
-            return Ok(Answer::None);
-        }
         let expected = match self.fault {
             Some(_) if !call.opens() => Ok(Answer::Refused(FORM)),
             _ => self.reference.call(call, lent),

@@ -36,7 +36,8 @@ pub fn calls(random: &Random, state: &State) -> Vec<Call> {
     for position in positions(random, state.threads.len()) {
         calls.push(Call::Threads { position });
         let waited = state.waited(position + 1).unwrap_or_default();
-        for place in positions(random, waited.len() / 2) {
+        // One past the last too, which of a thread that does not wait is the first.
+        for place in positions(random, waited.len() / 2 + 1) {
             calls.push(Call::WaitedObject {
                 id: position + 1,
                 position: place,

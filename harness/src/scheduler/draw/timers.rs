@@ -124,6 +124,28 @@ impl Draw<'_> {
         }
     }
 
+    pub(super) fn set_timer_signed(&self, state: &State) -> Call {
+        Call::SetTimerSigned {
+            address: self.timer(state),
+            due: self.signed_due(state),
+            period: self.period(),
+            dpc: self.dpc_to_name(state),
+        }
+    }
+
+    /// Mostly a due of `set_timer`, as a time or from now on; also as far as the end of time.
+    fn signed_due(&self, state: &State) -> i64 {
+        let random = self.random;
+        let from_now = |due: u64| state.now.wrapping_sub(due) as i64;
+        match random.below(32) {
+            0 | 1 => random.pick(&[i64::MIN, i64::MIN + 1, -1, 0, 1, i64::MAX - 1, i64::MAX]),
+            2 | 3 => from_now(random.near(u64::MAX)),
+            4 => random.next() as i64 >> random.below(64),
+            5..=17 => self.due(state) as i64,
+            _ => from_now(self.due(state)),
+        }
+    }
+
     fn period(&self) -> i32 {
         match self.random.below(32) {
             0 => self.random.pick(&[-1, i32::MIN]),

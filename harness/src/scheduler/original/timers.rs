@@ -26,6 +26,17 @@ pub fn original(scheduler: &mut Scheduler, call: &Call) -> Result<Answer, Schedu
         } => scheduler
             .set_timer(address, due, absolute, period, dpc)
             .map(Answer::Flag),
+        Call::SetTimerSigned {
+            address,
+            due,
+            period,
+            dpc,
+        } => {
+            let (due, absolute) = signed_due(*scheduler.now_mut(), due).expect("a due that fits");
+            scheduler
+                .set_timer(address, due, absolute, period, dpc)
+                .map(Answer::Flag)
+        }
         Call::CancelTimer { address } => scheduler.cancel_timer(address).map(Answer::Flag),
         Call::RequireTimerRelease(span) => scheduler
             .require_timer_release(span.address, span.size)
@@ -79,6 +90,14 @@ pub fn original(scheduler: &mut Scheduler, call: &Call) -> Result<Answer, Schedu
         Call::DpcInitializations => Ok(Answer::Count(scheduler.dpc_initializations())),
         Call::DpcImage { address } => scheduler.dpc(address).map(|dpc| Answer::Image(dpc.bytes())),
         _ => unreachable!("no call on timers or DPCs"),
+    }
+}
+
+/// A signed due as `set_timer` takes it, and whether it is absolute; nothing past 2^64 - 1.
+pub fn signed_due(now: u64, due: i64) -> Option<(u64, bool)> {
+    match u64::try_from(due) {
+        Ok(time) => Some((time, true)),
+        Err(_) => Some((now.checked_add(due.unsigned_abs())?, false)),
     }
 }
 

@@ -29,6 +29,12 @@ pub fn proved(lent: Lent, call: &Call) -> u64 {
                 let absolute = yes(absolute, due);
                 scheduler_set_timer(w, n, address, due, absolute, period, dpc, o, m)
             }
+            Call::SetTimerSigned {
+                address,
+                due,
+                period,
+                dpc,
+            } => scheduler_set_timer_signed(w, n, address, due, period, dpc, o, m),
             Call::CancelTimer { address } => scheduler_cancel_timer(w, n, address, o, m),
             Call::RequireTimerRelease(span) => {
                 scheduler_require_timer_release(w, n, span.address, span.size, o, m)
@@ -88,7 +94,7 @@ pub fn proved(lent: Lent, call: &Call) -> u64 {
 }
 
 /// The address, the architecture and the backing. What an image has for mapped bytes does not count.
-fn numbers(location: Location) -> (u64, u64, [u64; 4]) {
+pub fn numbers(location: Location) -> (u64, u64, [u64; 4]) {
     let address = location.address;
     let x86 = yes(location.architecture == Architecture::X86, address / 4);
     let backing = match location.backing {
