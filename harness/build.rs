@@ -1,7 +1,9 @@
-//! Links the proved library, which `rt staticlib exports` writes.
+//! Links the proved libraries, which `rt staticlib` writes.
 fn main() {
     let folder = concat!(env!("CARGO_MANIFEST_DIR"), "/../target/staticlib");
-    println!("cargo:rerun-if-changed={folder}/libexports.a");
     println!("cargo:rustc-link-search=native={folder}");
-    println!("cargo:rustc-link-lib=static=exports");
+    for name in ["exports", "raw_exports"] {
+        println!("cargo:rerun-if-changed={folder}/lib{name}.a");
+        println!("cargo:rustc-link-lib=static={name}");
+    }
 }

@@ -1,5 +1,6 @@
 //! The same random calls on the proved scheduler and on the original, in calls a second.
 mod advance;
+mod unguarded;
 
 use super::answer::Answer;
 use super::draw::Draw;
@@ -14,9 +15,10 @@ use crate::random::Random;
 use emumee::scheduler::{Object, Scheduler, SchedulerError};
 use std::hint::black_box;
 use std::time::{Duration, Instant};
+use unguarded::unguarded;
 
-/// The proved side's functions. An unguarded variant is one entry more.
-const SIDES: [(&str, Side); 1] = [("guarded", proved)];
+/// The proved side's functions: as exported, and without the check of the words' form.
+const SIDES: [(&str, Side); 2] = [("guarded", proved), ("unguarded", unguarded)];
 const THREADS: [u64; 3] = [4, 64, 256];
 /// How many calls are made of each list of calls, and how many of all lists together.
 const LIST: usize = 500;
@@ -38,8 +40,10 @@ pub fn run() {
             row(&format!("{threads} threads, {name}"), side, &lists);
         }
     }
-    println!();
-    advance::run(proved);
+    for (name, side) in SIDES {
+        println!();
+        advance::run(name, side);
+    }
 }
 
 /// A scheduler on both sides, and calls on it.
@@ -86,9 +90,7 @@ impl List {
             if state.is_stuck() && random.once_in(8) {
                 break;
             }
-            if matches!(call, Call::Open { .. } | Call::WordsNeeded(_))
-                || reference.foretold(&call).is_some()
-            {
+            if call.opens() || call.reads() || reference.foretold(&call).is_some() {
                 continue;
             }
             made(&mut reference, &call);

@@ -27,10 +27,11 @@ const STEP: u64 = 64;
 /// A prime above the number of timers.
 const STRIDE: u64 = 7919;
 
-pub fn run(side: Side) {
+pub fn run(name: &str, side: Side) {
+    let heading = format!("advance_to, {name}");
     println!(
-        "{:<28}{:>14}{:>14}{:>10}",
-        "advance_to, median of", "proved us", "Rust us", "ratio"
+        "{heading:<28}{:>14}{:>14}{:>10}",
+        "proved us", "Rust us", "ratio"
     );
     for (timers, due) in SIZES {
         row(side, timers, due);

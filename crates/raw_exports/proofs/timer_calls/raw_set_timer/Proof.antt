@@ -1,0 +1,35 @@
+use mathlib.Core.Path.{_∙_}
+use denote.Ref.{now}
+use mir.Facts.{toZ-ofZ}
+use Rattle.timers.specs.Arm as arm
+use Rattle.exports.specs.SchedulerAnswer.{given, truth}
+use Rattle.exports.proofs.AnswerLaws.{changed-short, changed-by}
+use borrow.Author.Needs.{needs}
+use Rattle.raw_exports.proofs.timer_calls.raw_set_timer.Statement.{statement}
+use Rattle.raw_exports.proofs.timer_calls.raw_set_timer.Tie as tie
+
+returns : tie.Need-returns
+returns c = changed-short (now (c .before .before .before .args .words)) (now (c .before .before .before .args .out)) _ (c .if1 .taken)
+
+set-timer-requires : tie.Need-set-timer-requires
+set-timer-requires c κs = search needs
+
+put-answer-requires : tie.Need-put-answer-requires
+put-answer-requires c κs = search needs
+
+same-length : tie.Need-same-length
+same-length c = search needs
+
+same-length-2 : tie.Need-same-length-2
+same-length-2 c = search needs
+
+returns-2 : tie.Need-returns-2
+returns-2 c =
+    (λ i. given ((c .before .before .put-answer .ensures .0) i) (c .before .before .before .before .before .before .set-timer .last .0) ((c .before .before .put-answer .ensures .1) i))
+    ∙ changed-by (now (c .before .before .before .before .before .before .before .before .before .before .before .args .words)) (now (c .before .before .before .before .before .before .before .before .before .before .before .args .out)) _ (c .before .before .before .before .before .before .set-timer .result) (c .before .before .before .before .before .before .set-timer .last .0) (c .before .before .before .before .before .before .before .before .if1 .left)
+    (c .before .before .before .before .before .before .set-timer .ensures ∙ (λ i. arm.timerSet (now (c .before .before .before .before .before .before .before .before .before .before .before .args .words)) (c .before .before .before .before .before .before .before .before .before .before .before .args .address) (c .before .before .before .before .before .before .before .before .before .before .before .args .due) (truth (c .before .before .before .before .before .before .before .before .before .before .before .args .absolute)) ((toZ-ofZ (c .before .before .before .before .before .before .before .before .before .before .before .fits .period)) i) (c .before .before .before .before .before .before .before .before .before .before .before .args .dpc)))
+
+pub raw-set-timer-spec : {M : Type 1} → statement M
+raw-set-timer-spec =
+    tie.close
+    (tie.spec returns set-timer-requires put-answer-requires same-length same-length-2 returns-2)
