@@ -14,3 +14,6 @@ pub mod Dpcs
 pub mod Chains
 pub mod Queue
 pub mod Ready
+pub mod Matches
+pub mod Written
+pub mod Walks

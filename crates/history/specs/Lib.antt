@@ -3,3 +3,4 @@ pub mod Records
 pub mod Chains
 pub mod Shape
 pub mod Agree
+pub mod Matches

@@ -1,0 +1,9 @@
+pub mod Found
+pub mod Configure
+pub mod Named
+pub mod Insert
+pub mod Remove
+pub mod Return
+pub mod Head
+pub mod Start
+pub mod DpcReads

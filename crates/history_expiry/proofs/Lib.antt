@@ -1,0 +1,8 @@
+pub mod Order
+pub mod Check
+pub mod Passed
+pub mod Apart
+pub mod Refusals
+pub mod Work
+pub mod Settle
+pub mod Expire

@@ -1,0 +1,5 @@
+pub mod Holders
+pub mod Puts
+pub mod Named
+pub mod Armed
+pub mod Same

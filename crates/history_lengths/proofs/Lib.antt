@@ -1,0 +1,12 @@
+pub mod Lengths
+pub mod Threads
+pub mod Waits
+pub mod Objects
+pub mod Kernel
+pub mod Sync
+pub mod Dpcs
+pub mod Dpc
+pub mod Expiry
+pub mod Timers
+pub mod Dispatcher
+pub mod Calls

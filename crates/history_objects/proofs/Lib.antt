@@ -1,0 +1,11 @@
+pub mod Tests
+pub mod Enter
+pub mod Plain
+pub mod Mutexes
+pub mod Events
+pub mod Overlaps
+pub mod Timers
+pub mod WrittenDpcs
+pub mod DpcRows
+pub mod EnterDpc
+pub mod Dpcs

@@ -1,0 +1,13 @@
+pub mod Walks
+pub mod Fewer
+pub mod EventRefusal
+pub mod Events
+pub mod Marks
+pub mod Stays
+pub mod Origins
+pub mod TimerRefusal
+pub mod TimersClosed
+pub mod DpcRows
+pub mod DpcsClosed
+pub mod FewerDpcs
+pub mod Timers

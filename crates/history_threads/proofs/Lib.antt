@@ -1,0 +1,13 @@
+pub mod Statuses
+pub mod Open
+pub mod Yield
+pub mod New
+pub mod Create
+pub mod Priority
+pub mod Listed
+pub mod Ran
+pub mod Least
+pub mod Times
+pub mod NextTime
+pub mod Dispatch
+pub mod Views

@@ -1,0 +1,13 @@
+pub mod Found
+pub mod Refusals
+pub mod Naming
+pub mod Settings
+pub mod Sets
+pub mod Signed
+pub mod Own
+pub mod Disarms
+pub mod Cancels
+pub mod Walks
+pub mod TimerReads
+pub mod Last
+pub mod Overlaps

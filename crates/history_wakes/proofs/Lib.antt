@@ -1,0 +1,15 @@
+pub mod Tests
+pub mod Lists
+pub mod Puts
+pub mod Takes
+pub mod Holders
+pub mod Woken
+pub mod Wake
+pub mod Timeouts
+pub mod Awake
+pub mod Events
+pub mod Mutexes
+pub mod Terminate
+pub mod Visits
+pub mod Granted
+pub mod SetEvent
