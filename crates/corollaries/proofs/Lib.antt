@@ -1,0 +1,17 @@
+pub mod Next
+pub mod Told
+pub mod Dispatches
+pub mod Positions
+pub mod Queue
+pub mod Alone
+pub mod SetEvent
+pub mod Leaves
+pub mod Effects
+pub mod Rows
+pub mod Short
+pub mod Refusals
+pub mod Wdk
+pub mod Waiters
+pub mod Never
+pub mod AnyWords
+pub mod Outputs

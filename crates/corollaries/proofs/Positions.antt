@@ -1,0 +1,56 @@
+-- Positions in lists: where one stands, how often, and in what order.
+use Prim.Native.Nat.{ℕ, zero, suc, _<_, _≤_}
+use mathlib.Core.List.{List, [], _∷_}
+use mathlib.Core.Bool.{Bool, true, cond}
+use mathlib.Core.Option.{some}
+use mathlib.Core.Logic.{inl, inr}
+use mathlib.Core.Path.{_≡_, refl, sym, ap, _∙_, subst}
+use native.Mathlib.Omega.{arith}
+use Rattle.model.specs.Lists.{Mem, Before, Distinct, countOf, nth}
+use Rattle.model.specs.Valid.{RisingBy}
+use Rattle.model.proofs.TableLaws.{some-same, none-some}
+use Rattle.history_tables.proofs.Lists.{nth-mem}
+
+pub mem-nth : (l : List ℕ) (x : ℕ) → Mem x l → (n : ℕ) × (nth l n ≡ some x)
+mem-nth [] x m = absurd m
+mem-nth (y ∷ l) x (inl e) = (0, ap (λ (k : ℕ). some k) (sym e))
+mem-nth (y ∷ l) x (inr m) = let r = mem-nth l x m in (suc (r .0), r .1)
+
+pub distinct-nth : (l : List ℕ) → Distinct l → (x m n : ℕ) → nth l m ≡ some x → nth l n ≡ some x → m ≡ n
+distinct-nth [] h x m n p q = absurd (none-some x p)
+distinct-nth (y ∷ l) h x zero zero p q = refl
+distinct-nth (y ∷ l) h x zero (suc n) p q = absurd (h .0 (subst (λ (k : ℕ). Mem k l) (sym (some-same y x p)) (nth-mem l n x q)))
+distinct-nth (y ∷ l) h x (suc m) zero p q = absurd (h .0 (subst (λ (k : ℕ). Mem k l) (sym (some-same y x q)) (nth-mem l m x p)))
+distinct-nth (y ∷ l) h x (suc m) (suc n) p q = ap suc (distinct-nth l (h .1) x m n p q)
+
+pub rising-nth : (f : ℕ → ℕ) (l : List ℕ) → RisingBy f l → (x y m n : ℕ) → nth l m ≡ some x → nth l n ≡ some y → m < n → f x < f y
+rising-nth f [] h x y m n p q k = absurd (none-some x p)
+rising-nth f (z ∷ l) h x y m zero p q k = absurd (omega arith)
+rising-nth f (z ∷ l) h x y zero (suc n) p q k = subst (λ (i : ℕ). f i < f y) (some-same z x p) (h .0 y (nth-mem l n y q))
+rising-nth f (z ∷ l) h x y (suc m) (suc n) p q k = rising-nth f l (h .1) x y m n p q (omega arith)
+
+pub rising-before : (f : ℕ → ℕ) (l : List ℕ) → RisingBy f l → (x y : ℕ) → Before x y l → f x < f y
+rising-before f [] h x y b = absurd b
+rising-before f (z ∷ l) h x y (inl b) = subst (λ (i : ℕ). f i < f y) (sym (b .0)) (h .0 y (b .1))
+rising-before f (z ∷ l) h x y (inr b) = rising-before f l (h .1) x y b
+
+module _ {A : Type 0} (f : A → Bool) where
+  -- one that passes the test is counted
+  some-counted : (l : List A) (x : A) → Mem x l → f x ≡ true → 1 ≤ countOf f l
+  some-counted [] x m e = absurd m
+  some-counted (z ∷ l) x (inl q) e =
+      let c : _≡_ {A = ℕ} (cond (f z) 1 0) 1 = ap (λ (b : Bool). cond b 1 0) (ap f (sym q) ∙ e) in
+      omega (arith, c)
+  some-counted (z ∷ l) x (inr m) e = omega (arith, some-counted l x m e)
+
+  -- of those that pass the test there is one at most
+  pub counted-once : (l : List A) → countOf f l ≤ 1 → (x y : A) → Mem x l → Mem y l → f x ≡ true → f y ≡ true → x ≡ y
+  counted-once [] h x y m n p q = absurd m
+  counted-once (z ∷ l) h x y (inl a) (inl b) p q = a ∙ sym b
+  counted-once (z ∷ l) h x y (inl a) (inr n) p q =
+      let c : _≡_ {A = ℕ} (cond (f z) 1 0) 1 = ap (λ (b : Bool). cond b 1 0) (ap f (sym a) ∙ p) in
+      absurd (omega (arith, c, some-counted l y n q))
+  counted-once (z ∷ l) h x y (inr m) (inl b) p q =
+      let c : _≡_ {A = ℕ} (cond (f z) 1 0) 1 = ap (λ (k : Bool). cond k 1 0) (ap f (sym b) ∙ q) in
+      absurd (omega (arith, c, some-counted l x m p))
+  counted-once (z ∷ l) h x y (inr m) (inr n) p q = counted-once l (omega arith) x y m n p q

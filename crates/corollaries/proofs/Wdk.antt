@@ -1,0 +1,122 @@
+-- What Microsoft's pages report holds of the code's answers, for calls that are not refused.
+use Prim.Native.Nat.{ℕ}
+use mathlib.Core.List.{List}
+use mathlib.Core.Bool.{Bool, true, false, not, _&&_}
+use mathlib.Core.Option.{Option}
+use mathlib.Core.Path.{_≡_, sym, ap, _∙_, subst}
+use lib.Dec.{ltb}
+use lib.IntN.{ℤ}
+use lib.ListN.{length}
+use Rattle.calls.specs.Run.{answered}
+use Rattle.model.specs.Lists.{Mem}
+use Rattle.model.specs.State.{State, Named}
+use Rattle.model.specs.Waits.{isMet, reached}
+use Rattle.model.specs.Timers.{most}
+use Rattle.model.specs.Refusal.{openRefusal, pairs, isNegative, signedDue, setSignedRefusal}
+use Rattle.model.specs.Answer.{Answer, Outcome, Flag, Satisfied, Timeout, Blocked}
+use Rattle.model.specs.Call.{Call, SetEvent, SetTimer, SetTimerSigned, CancelTimer, InsertQueueDpc, RemoveQueueDpc, Wait}
+use Rattle.model.specs.Step.{step, refusal, effect}
+use Rattle.model.specs.Fits.{Fits}
+use Rattle.model.specs.Wdk.{wasSignaled, inTimerQueue, inDpcQueue, signaledNow, WaitAny, WaitAll}
+use Rattle.model.proofs.RowLaws.{passes}
+use Rattle.model.proofs.WdkLaws as wdk
+use Rattle.model.proofs.WdkLaws.{InsertReports, step-is}
+use Rattle.theorem.specs.History.{Proper}
+use Rattle.theorem.specs.Theorem.{logged, end}
+use Rattle.corollaries.specs.Refusals.{isRefused}
+use Rattle.corollaries.proofs.Next.{next, valid}
+use Rattle.corollaries.proofs.Refusals.{passed-by}
+
+-- the signed due sets the timer as the due that it means does
+signed-is : (s : State) (address : ℕ) (due period : ℤ) (dpc : ℕ) → refusal (SetTimerSigned address due period dpc) s ≡ 0 → step (SetTimerSigned address due period dpc) s .answer ≡ Flag (inTimerQueue s address)
+unfolding refusal setSignedRefusal effect
+signed-is s address due period dpc e =
+    let a = passes (isNegative period) 16 _ e in
+    let b = passes (isNegative due && ltb most (signedDue (s .now) due)) 12 _ (a .1) in
+    let c = SetTimer address (signedDue (s .now) due) (not (isNegative due)) period dpc in
+    ap (λ (x : Outcome). x .answer) (step-is (SetTimerSigned address due period dpc) s e ∙ sym (step-is c s (b .1)))
+    ∙ wdk.set-timer-reports s address (signedDue (s .now) due) (not (isNegative due)) period dpc (b .1)
+
+module _ (w : List ℕ) (p t o d : ℕ) (calls : List Call) (accepted : openRefusal (length w) p t o d ≡ 0) (proper : Proper (length w) calls) where
+  abbrev words : List ℕ
+  words = end w p t o d calls
+
+  abbrev log : State
+  log = logged w p t o d calls
+
+  -- KeSetEvent: whether the event was signaled
+  pub set-event : (key : ℕ) → Fits (SetEvent key) → isRefused (answered words (SetEvent key)) ≡ false → answered words (SetEvent key) ≡ Flag (wasSignaled log key)
+  set-event key fit e =
+      next w p t o d calls accepted proper (SetEvent key) fit tt .answers ∙ wdk.set-event-reports log key (passed-by w p t o d calls accepted proper (SetEvent key) fit tt e)
+
+  -- KeSetTimerEx: whether the timer was in the timer queue
+  pub set-timer : (address due : ℕ) (absolute : Bool) (period : ℤ) (dpc : ℕ) → Fits (SetTimer address due absolute period dpc)
+      → isRefused (answered words (SetTimer address due absolute period dpc)) ≡ false → answered words (SetTimer address due absolute period dpc) ≡ Flag (inTimerQueue log address)
+  set-timer address due absolute period dpc fit e =
+      let c = SetTimer address due absolute period dpc in
+      next w p t o d calls accepted proper c fit tt .answers ∙ wdk.set-timer-reports log address due absolute period dpc (passed-by w p t o d calls accepted proper c fit tt e)
+
+  -- the same with a signed due
+  pub set-timer-signed : (address : ℕ) (due period : ℤ) (dpc : ℕ) → Fits (SetTimerSigned address due period dpc)
+      → isRefused (answered words (SetTimerSigned address due period dpc)) ≡ false → answered words (SetTimerSigned address due period dpc) ≡ Flag (inTimerQueue log address)
+  set-timer-signed address due period dpc fit e =
+      let c = SetTimerSigned address due period dpc in
+      next w p t o d calls accepted proper c fit tt .answers ∙ signed-is log address due period dpc (passed-by w p t o d calls accepted proper c fit tt e)
+
+  -- KeCancelTimer: whether the timer was in the timer queue, its DPC queued or not
+  pub cancel-timer : (address : ℕ) → Fits (CancelTimer address) → isRefused (answered words (CancelTimer address)) ≡ false → answered words (CancelTimer address) ≡ Flag (inTimerQueue log address)
+  cancel-timer address fit e =
+      next w p t o d calls accepted proper (CancelTimer address) fit tt .answers ∙ wdk.cancel-timer-reports log address (passed-by w p t o d calls accepted proper (CancelTimer address) fit tt e)
+
+  -- KeInsertQueueDpc: TRUE if the DPC was not queued, and now it is; FALSE if it was, and then nothing of it changes
+  pub insert-dpc : (address first second : ℕ) → Fits (InsertQueueDpc address first second) → isRefused (answered words (InsertQueueDpc address first second)) ≡ false
+      → InsertReports log (step (InsertQueueDpc address first second) log .state) address (answered words (InsertQueueDpc address first second))
+  insert-dpc address first second fit e =
+      let c = InsertQueueDpc address first second in
+      subst (λ (x : Answer). InsertReports log (step c log .state) address x) (sym (next w p t o d calls accepted proper c fit tt .answers))
+      (wdk.insert-dpc-reports log (valid w p t o d calls accepted proper) address first second (passed-by w p t o d calls accepted proper c fit tt e))
+
+  -- KeRemoveQueueDpc: whether the DPC was queued; now it is not
+  pub remove-dpc : (address : ℕ) → Fits (RemoveQueueDpc address) → isRefused (answered words (RemoveQueueDpc address)) ≡ false
+      → (answered words (RemoveQueueDpc address) ≡ Flag (inDpcQueue log address)) × (inDpcQueue (step (RemoveQueueDpc address) log .state) address ≡ false)
+  remove-dpc address fit e =
+      let r = wdk.remove-dpc-reports log (valid w p t o d calls accepted proper) address (passed-by w p t o d calls accepted proper (RemoveQueueDpc address) fit tt e) in
+      (next w p t o d calls accepted proper (RemoveQueueDpc address) fit tt .answers ∙ r .0, r .1)
+
+  -- ---- KeWaitForMultipleObjects
+
+  -- WaitAny, some object signaled: the lowest index of those that are, which alone is taken
+  pub wait-any : (l : List ℕ) (deadline : Option ℕ) (irql : ℕ) → Fits (Wait l false deadline irql) → isRefused (answered words (Wait l false deadline irql)) ≡ false
+      → (m : Named) → Mem m (pairs l) → signaledNow log m ≡ true
+      → (i : ℕ) × (answered words (Wait l false deadline irql) ≡ Satisfied i) × WaitAny log (step (Wait l false deadline irql) log .state) (log .dispatcher .current) (pairs l) i
+  wait-any l deadline irql fit e m a z =
+      let c = Wait l false deadline irql in
+      let r = wdk.wait-any-reports log l deadline irql (passed-by w p t o d calls accepted proper c fit tt e) m a z in
+      (r .0, next w p t o d calls accepted proper c fit tt .answers ∙ r .1, r .2)
+
+  -- WaitAll, every object signaled: all are taken together
+  pub wait-all : (l : List ℕ) (deadline : Option ℕ) (irql : ℕ) → Fits (Wait l true deadline irql) → isRefused (answered words (Wait l true deadline irql)) ≡ false
+      → ((n : Named) → Mem n (pairs l) → signaledNow log n ≡ true)
+      → (answered words (Wait l true deadline irql) ≡ Satisfied 0) × WaitAll log (step (Wait l true deadline irql) log .state) (log .dispatcher .current) (pairs l)
+  wait-all l deadline irql fit e h =
+      let c = Wait l true deadline irql in
+      let r = wdk.wait-all-reports log l deadline irql (passed-by w p t o d calls accepted proper c fit tt e) h in
+      (next w p t o d calls accepted proper c fit tt .answers ∙ r .0, r .1)
+
+  -- nothing satisfies it and its timeout is zero or reached: timeout, and nothing is taken
+  pub wait-timeout : (l : List ℕ) (all : Bool) (deadline : Option ℕ) (irql : ℕ) → Fits (Wait l all deadline irql) → isRefused (answered words (Wait l all deadline irql)) ≡ false
+      → isMet (log .dispatcher) (pairs l) all ≡ false → reached deadline (log .now) ≡ true
+      → (answered words (Wait l all deadline irql) ≡ Timeout) × (step (Wait l all deadline irql) log .state .dispatcher .objects ≡ log .dispatcher .objects)
+  wait-timeout l all deadline irql fit e m z =
+      let c = Wait l all deadline irql in
+      let r = wdk.wait-times-out log l all deadline irql (passed-by w p t o d calls accepted proper c fit tt e) m z in
+      (next w p t o d calls accepted proper c fit tt .answers ∙ r .0, r .1)
+
+  -- nothing satisfies it and no timeout is reached: the thread blocks, and nothing is taken
+  pub wait-blocks : (l : List ℕ) (all : Bool) (deadline : Option ℕ) (irql : ℕ) → Fits (Wait l all deadline irql) → isRefused (answered words (Wait l all deadline irql)) ≡ false
+      → isMet (log .dispatcher) (pairs l) all ≡ false → reached deadline (log .now) ≡ false
+      → (answered words (Wait l all deadline irql) ≡ Blocked) × (step (Wait l all deadline irql) log .state .dispatcher .objects ≡ log .dispatcher .objects)
+  wait-blocks l all deadline irql fit e m z =
+      let c = Wait l all deadline irql in
+      let r = wdk.wait-blocks log l all deadline irql (passed-by w p t o d calls accepted proper c fit tt e) m z in
+      (next w p t o d calls accepted proper c fit tt .answers ∙ r .0, r .1)

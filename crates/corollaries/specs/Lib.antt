@@ -1,0 +1,3 @@
+pub mod Reads
+pub mod SetEvent
+pub mod Refusals
