@@ -40,5 +40,6 @@ pub record Outcome : Type 0 where
   pub answer : Answer
   pub state : State
 
+-- an answer, and the state after it
 abbrev pub gives : Answer → State → Outcome
 gives a s = record { answer = a; state = s }

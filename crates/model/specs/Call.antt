@@ -28,6 +28,7 @@ pub data Read : Type 0 where
   QueuedDpcs : ℕ → Read  -- a position
   ActiveDpc NextDpc : Read
 
+-- every call on a scheduler's words
 pub data Call : Type 0 where
   Open : ℕ → ℕ → ℕ → ℕ → ℕ → Call  -- the length of the lent words, a priority, the limits of threads, objects and DPCs
   CreateThread : ℕ → Call  -- a priority

@@ -61,6 +61,7 @@ workOf (Returning w) = some w
 
 -- ---- the table
 
+-- the key of the table
 abbrev pub addressOf : Dpc → ℕ
 addressOf d = d .address
 

@@ -18,6 +18,7 @@ use Rattle.model.specs.Call as call
 
 -- ---- the Rust's types
 
+-- the unsigned ones
 abbrev pub U8 : ℕ → Type 0
 U8 n = n ≤ 2 ^ 8 - 1
 
@@ -27,6 +28,7 @@ U32 n = n ≤ 2 ^ 32 - 1
 abbrev pub U64 : ℕ → Type 0
 U64 n = n ≤ 2 ^ 64 - 1
 
+-- the signed ones
 abbrev pub I32 : ℤ → Type 0
 I32 (pos n) = n ≤ 2 ^ 31 - 1
 I32 (negsuc n) = n ≤ 2 ^ 31 - 1
@@ -35,6 +37,7 @@ abbrev pub I64 : ℤ → Type 0
 I64 (pos n) = n ≤ 2 ^ 63 - 1
 I64 (negsuc n) = n ≤ 2 ^ 63 - 1
 
+-- of every number of a list, and of one that may be absent
 abbrev pub U64s : List ℕ → Type 0
 U64s [] = Unit
 U64s (n ∷ l) = U64 n × U64s l
@@ -43,6 +46,7 @@ abbrev pub U64? : Option ℕ → Type 0
 U64? none = Unit
 U64? (some n) = U64 n
 
+-- the numbers of a backing
 abbrev pub BackingFits : TimerBacking → Type 0
 BackingFits (Image base size) = U64 base × U64 size
 BackingFits (NonpagedPool base requested mapped) = U64 base × U64 requested × U64 mapped
@@ -87,12 +91,14 @@ ResultFits none = Unit
 ResultFits (some (state.satisfied i)) = i ≤ 63
 ResultFits (some state.timeout) = Unit
 
+-- an exit status of 32 bits
 abbrev pub StatusFits : Status → Type 0
 StatusFits state.running = Unit
 StatusFits state.ready = Unit
 StatusFits (state.waiting w) = Unit
 StatusFits (state.exited n) = U32 n
 
+-- a thread's numbers
 abbrev pub ThreadFits : state.Thread → Type 0
 ThreadFits t = ResultFits (t .result) × StatusFits (t .status)
 

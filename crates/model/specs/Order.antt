@@ -15,6 +15,7 @@ ByAddress (t ∷ ts) = ((u : Timer) → Mem u ts → t .address < u .address) ×
 abbrev pub Sooner : Timer → Timer → Type 0
 Sooner t u = (t .due < u .due) ⊎ ((t .due ≡ u .due) × (t .address < u .address))
 
+-- each of them sooner than all behind it
 abbrev pub ByDue : List Timer → Type 0
 ByDue [] = Unit
 ByDue (t ∷ ts) = ((u : Timer) → Mem u ts → Sooner t u) × ByDue ts

@@ -64,6 +64,7 @@ abbrev pub lastTimerBelow : ℕ → List Timer → Option Timer
 lastTimerBelow end [] = none
 lastTimerBelow end (t ∷ ts) = cond (ltb (t .address) end) (given (lastTimerBelow end ts) (some t) some) none
 
+-- the same of the DPCs
 abbrev pub lastDpcBelow : ℕ → List Dpc → Option Dpc
 lastDpcBelow end [] = none
 lastDpcBelow end (d ∷ ds) = cond (ltb (d .address) end) (given (lastDpcBelow end ds) (some d) some) none
@@ -96,6 +97,7 @@ abbrev pub headOf : List Dpc → List ℕ → Option Dpc
 headOf table [] = none
 headOf table (a ∷ l) = dpcAt table a
 
+-- "`next_dpc`": the head of the queue, where nothing is active
 unfoldable pub nextDpc : State → Option Dpc
 nextDpc s = cond (present (activeDpc (s .dpcs .table))) none (headOf (s .dpcs .table) (s .dpcs .queue))
 

@@ -84,6 +84,7 @@ eventRefusal s key = cond (collides s 1 key) 5 (cond (eqb key 0) 4 (cond (isFull
 
 -- ---- `adopt_mutex`: 10 owner not a live thread; 10 known mutex with another owner; a new key as `initialize_mutex`
 
+-- the owner as a mutex keeps it: 0 for none
 abbrev pub ownerNumber : Option ℕ → ℕ
 ownerNumber none = 0
 ownerNumber (some id) = id
@@ -118,6 +119,7 @@ signalRefusal s key = cond (present (eventAt (s .dispatcher .objects) key)) 0 2
 -- ---- event release, `retire_event_backing`: 23 base + size passes 2^64 − 1, size or layout 0, some event's key + layout passes
 -- 2^64 − 1, an event is split or, when overlapped, waited on
 
+-- the event is not wholly in the released memory
 abbrev pub isSplit : ℕ → ℕ → ℕ → ℕ → Bool
 isSplit base end from to = ltb from base || ltb end to
 
@@ -139,6 +141,7 @@ eventReleaseRefusal s base size layout =
 -- ---- `wait`: 3; 7 list of 0, over 64, duplicate, odd length or kind over 3; 2; 8 a listed mutex is the caller's own; then grant
 -- or timeout; 9 IRQL over 1; 24 wait sequence at 2^64 − 1
 
+-- "The list is pairs kind, key"; a kind without a key is dropped here, and the odd length refused
 abbrev pub pairs : List ℕ → List Named
 pairs [] = []
 pairs (kind ∷ []) = []
@@ -193,6 +196,7 @@ yieldRefusal s = cond (eqb (s .dispatcher .current) 0) 3 0
 
 -- ---- `terminate`: 3; 10 owns a mutex
 
+-- a mutex of the thread's
 abbrev pub ownsMutex : List Object → ℕ → Bool
 ownsMutex l id = any (λ (m : Mutex). eqb (m .owner) id) (mutexesOf l)
 
@@ -202,6 +206,7 @@ terminateRefusal s =
 
 -- ---- `advance_to`: 12 time goes back; then the expiry rules
 
+-- what an expiry changes, before it
 abbrev pub unexpired : State → Expired
 unexpired s = record { objects = s .dispatcher .objects; dpcs = s .dpcs }
 
@@ -251,6 +256,7 @@ dpcRefusal s address a b =
 -- ---- `set_timer`: 17 negative period; unless the DPC is 0, 2 for it, 18 another inserted timer has it, 19 it is busy; 19 the
 -- timer's former DPC busy; 2 timer; 24 arm count at its end
 
+-- "17 negative period"
 abbrev pub isNegative : ℤ → Bool
 isNegative (pos n) = false
 isNegative (negsuc n) = true
@@ -300,6 +306,7 @@ unknownDpc s address = cond (present (dpcAt (s .dpcs .table) address)) 0 2
 -- ---- timer release, `retire_timer_backing`: 23 an overlapped timer is inserted, waited on, or periodic origin of the active
 -- work; or an overlapped DPC is busy or named by an inserted timer
 
+-- "periodic origin of the active work"
 abbrev pub isPeriodicOrigin : List Dpc → ℕ → Bool
 isPeriodicOrigin l a =
     given (activeDpc l) false (λ (d : Dpc). given (workOf (d .phase)) false (λ (w : DpcWork). isPeriodicOf a (w .origin)))
@@ -308,6 +315,7 @@ isPeriodicOrigin l a =
 abbrev pub timerOverlapped : ℕ → ℕ → Timer → Bool
 timerOverlapped address size t = overlaps address size (t .address) (timerSize (t .architecture))
 
+-- the DPC overlaps the released memory
 abbrev pub dpcOverlapped : ℕ → ℕ → Dpc → Bool
 dpcOverlapped address size d = overlaps address size (d .address) (dpcSize (d .architecture))
 
@@ -318,6 +326,7 @@ timerHeld s address size t =
     (cond (t .inserted) true (cond (isWaitedOn s 2 (t .address)) true (isPeriodicOrigin (s .dpcs .table) (t .address))))
     false
 
+-- "or an overlapped DPC is busy or named by an inserted timer"
 unfoldable pub dpcHeld : State → ℕ → ℕ → Dpc → Bool
 dpcHeld s address size d =
     cond (dpcOverlapped address size d) (cond (isBusy (d .phase)) true (isNamed (s .dispatcher .objects) (d .address))) false
@@ -330,6 +339,7 @@ timerReleaseRefusal s address size =
 -- ---- `configure_dpc_dispatch`: 20 unless no policy is set, thread 1 is the only one and current, wait sequence, now and
 -- acceptances are 0, and no event, mutex, timer or DPC exists; 20 an argument 0 or both equal
 
+-- "no policy is set"
 abbrev pub isUnselected : Policy → Bool
 isUnselected unselected = true
 isUnselected (cpu0Dispatch first second) = false
@@ -347,6 +357,7 @@ configureRefusal s first second =
 -- ---- `insert_queue_dpc`: 18 named by an inserted timer; 20 no policy; 2; 21 queued from another origin; 24 duplicates at
 -- 2^64 − 1; 19 running or returning; 14 after 65,536 acceptances
 
+-- what the DPC's phase refuses: 21 and 24 for queued work, 19 for active work, 14 else
 abbrev pub insertInPhase : State → DpcPhase → ℕ
 insertInPhase s Idle = cond (leb lifetime (s .dpcs .counters .accepted)) 14 0
 insertInPhase s (Queued w) = cond (isCaller (w .origin)) (cond (leb most (s .dpcs .counters .duplicates)) 24 0) 21
@@ -361,6 +372,7 @@ insertRefusal s address =
 
 -- ---- `start_dpc`: 22 not the head, or one active
 
+-- the head of the queue
 abbrev pub isHead : ℕ → List ℕ → Bool
 isHead a [] = false
 isHead a (x ∷ xs) = eqb x a
@@ -372,12 +384,14 @@ startRefusal s address =
 
 -- ---- `returned_dpc`, `restored_dpc`: 2; 22 phase or sequence differs
 
+-- running, with the work of that sequence
 abbrev pub runsWith : ℕ → DpcPhase → Bool
 runsWith n Idle = false
 runsWith n (Queued w) = false
 runsWith n (Running w) = eqb (w .sequence) n
 runsWith n (Returning w) = false
 
+-- returning, with the work of that sequence
 abbrev pub returnsWith : ℕ → DpcPhase → Bool
 returnsWith n Idle = false
 returnsWith n (Queued w) = false
@@ -401,5 +415,6 @@ dispatchRefusal s out = cond (ltb out (s .limits .threads)) 27 0
 unfoldable pub timerImageRefusal : State → ℕ → ℕ → ℕ
 timerImageRefusal s address out = cond (ltb out 64) 27 (unknownTimer s address)
 
+-- the same for a DPC's image
 unfoldable pub dpcImageRefusal : State → ℕ → ℕ → ℕ
 dpcImageRefusal s address out = cond (ltb out 64) 27 (unknownDpc s address)

@@ -26,6 +26,7 @@ pub record Wait : Type 0 where
   pub deadline : Option ℕ  -- none: never
   pub sequence : ℕ
 
+-- what a thread does
 pub data Status : Type 0 where
   running ready : Status
   waiting : Wait → Status
@@ -44,6 +45,7 @@ pub record Thread : Type 0 where
 
 -- ---- the objects that threads wait for, besides threads
 
+-- a mutex
 pub record Mutex : Type 0 where
   pub key : ℕ
   pub owner : ℕ  -- 0: none
@@ -71,6 +73,7 @@ pub record Dispatcher : Type 0 where
 
 -- ---- DPCs
 
+-- the six counts of DPC work
 pub record Counters : Type 0 where
   pub accepted : ℕ
   pub duplicates : ℕ
@@ -92,6 +95,7 @@ pub data Policy : Type 0 where
 
 -- ---- all of it
 
+-- a state of the log
 pub record State : Type 0 where
   pub limits : Limits
   pub dispatcher : Dispatcher

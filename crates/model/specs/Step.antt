@@ -26,6 +26,7 @@ use Rattle.model.specs.Call as call
 
 -- ---- one thing of a state changed
 
+-- other threads and objects
 abbrev pub withDispatcher : State → Dispatcher → State
 withDispatcher s d = record { limits = s .limits; dispatcher = d; dpcs = s .dpcs; now = s .now; policy = s .policy; timerInitializations = s .timerInitializations; dpcInitializations = s .dpcInitializations }
 
@@ -120,6 +121,7 @@ delayed s deadline = cond (leb deadline (s .now)) (timedOut s) (blocks s [] fals
 
 -- ---- "`advance_to` expires timers, sets the time, wakes by objects, then times out deadlines at or before it by thread number."
 
+-- what the expiry of all that are due leaves
 abbrev pub expiredAt : State → ℕ → Expired
 expiredAt s time = expireEach (s .policy) time (unexpired s) (dueTimers (s .policy) time (s .dispatcher .objects))
 
@@ -138,6 +140,7 @@ advanced s time =
 
 -- ---- dispatch
 
+-- the smallest of the numbers, none of none
 abbrev pub smallest : List ℕ → Option ℕ
 smallest [] = none
 smallest (x ∷ xs) = given (smallest xs) (some x) (λ y. some (min x y))
@@ -256,6 +259,7 @@ timersRetired s address size =
 
 -- ---- DPCs
 
+-- `configure_dpc_dispatch`: the policy with its two arguments
 unfoldable pub configured : State → ℕ → ℕ → State
 configured s first second = record { limits = s .limits; dispatcher = s .dispatcher; dpcs = s .dpcs; now = s .now; policy = cpu0Dispatch first second; timerInitializations = s .timerInitializations; dpcInitializations = s .dpcInitializations }
 

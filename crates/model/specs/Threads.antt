@@ -10,6 +10,7 @@ use Rattle.model.specs.State.{Dispatcher, Thread, Status, running, ready
 
 -- ---- a thread
 
+-- it is the current one
 abbrev pub isRunning : Status → Bool
 isRunning running = true
 isRunning ready = false
@@ -41,6 +42,7 @@ hasExited (exited n) = true
 abbrev pub noWait : Wait
 noWait = record { objects = []; all = false; deadline = none; sequence = 0 }
 
+-- the wait of a waiting thread
 abbrev pub waitOf : Status → Wait
 waitOf running = noWait
 waitOf ready = noWait
@@ -63,6 +65,7 @@ changeAt l (suc n) t = set l n t
 
 -- ---- the threads of a dispatcher
 
+-- how many threads there are
 abbrev pub count : Dispatcher → ℕ
 count d = length (d .threads)
 
@@ -70,9 +73,11 @@ count d = length (d .threads)
 abbrev pub threadOf : Dispatcher → ℕ → Thread
 threadOf d id = threadAt (d .threads) id
 
+-- what a thread does, by its number
 abbrev pub statusOf : Dispatcher → ℕ → Status
 statusOf d id = threadOf d id .status
 
+-- its priority
 abbrev pub priorityOf : Dispatcher → ℕ → ℕ
 priorityOf d id = threadOf d id .priority
 
@@ -139,12 +144,15 @@ becomes d id t =
 
 -- ---- records
 
+-- a thread that does something else
 abbrev pub withStatus : Thread → Status → Thread
 withStatus t x = record { priority = t .priority; status = x; result = t .result }
 
+-- one with another priority
 abbrev pub withPriority : Thread → ℕ → Thread
 withPriority t p = record { priority = p; status = t .status; result = t .result }
 
+-- one whose last wait ended otherwise
 abbrev pub withResult : Thread → Option WaitResult → Thread
 withResult t r = record { priority = t .priority; status = t .status; result = r }
 

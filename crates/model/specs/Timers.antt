@@ -25,6 +25,7 @@ lifetime = 65536
 
 -- ---- records
 
+-- "a timer that is neither signaled nor inserted", with its initialization
 unfoldable pub newTimer : ℕ → Architecture → TimerBacking → Bool → ℕ → Timer
 newTimer address a b manual n =
     record {
@@ -84,6 +85,7 @@ cancelled t = retimed t (t .signaled) false (t .due)
 
 -- ---- "Next due: due + ((now − due) div P + 1) × P, P = 10,000 × period in ms."
 
+-- of a due and a period, at a time
 unfoldable pub nextDue : ℕ → ℕ → ℕ → ℕ
 nextDue due period now = let p = 10000 * period in due + ((now - due) / p + 1) * p
 
@@ -101,6 +103,7 @@ horizonRefusal now t = cond (isPeriodic t) (cond (ltb most (nextDue (t .due) (t 
 
 -- ---- which timers are due, and in what order
 
+-- inserted, with a due at or before the time
 abbrev pub isDue : ℕ → Timer → Bool
 isDue now t = cond (t .inserted) (leb (t .due) now) false
 
@@ -159,6 +162,7 @@ dpcsAfter (cpu0Dispatch first second) now q t = cond (eqb (t .dpc) 0) q (workQue
 
 -- ---- the expiry of all that are due, one after the other
 
+-- what an expiry changes: the objects, and the DPCs
 pub record Expired : Type 0 where
   pub objects : List Object
   pub dpcs : Dpcs

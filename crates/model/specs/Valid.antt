@@ -32,6 +32,7 @@ module _ {A : Type 0} (key : A → ℕ) where
 
 -- ---- "limits .. pass their checks"
 
+-- threads 1 to 256, objects and DPCs at most 4096
 pub record LimitsValid (l : Limits) : Type 0 where
   pub some-thread : 1 ≤ l .threads
   pub threads : l .threads ≤ 256
@@ -110,6 +111,7 @@ abbrev pub sequenceOf : Option DpcWork → ℕ
 sequenceOf none = 0
 sequenceOf (some w) = w .sequence
 
+-- by the address of its DPC
 abbrev pub workAt : List Dpc → ℕ → ℕ
 workAt l a = sequenceOf (workOf (phaseAt l a))
 
@@ -117,6 +119,7 @@ workAt l a = sequenceOf (workOf (phaseAt l a))
 abbrev pub activeCount : List Dpc → ℕ
 activeCount l = countOf (λ (d : Dpc). isActive (d .phase)) l
 
+-- the returning work
 abbrev pub returningCount : List Dpc → ℕ
 returningCount l = countOf (λ (d : Dpc). isReturning (d .phase)) l
 
@@ -170,6 +173,7 @@ pub record Linked (objects : List Object) (table : List Dpc) : Type 0 where
 
 -- ---- all of it
 
+-- the arguments are not 0 and differ
 abbrev pub PolicyValid : Policy → Type 0
 PolicyValid unselected = Unit
 PolicyValid (cpu0Dispatch first second) = (first ≡ 0 → ⊥) × (second ≡ 0 → ⊥) × (first ≡ second → ⊥)

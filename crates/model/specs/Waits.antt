@@ -13,6 +13,7 @@ use Rattle.model.specs.Threads.{isThread, hasExited, statusOf, waitOf, w
 
 -- ---- objects
 
+-- the key of the table: a timer's is its address
 abbrev pub keyOf : Object → ℕ
 keyOf (mutex m) = m .key
 keyOf (event e) = e .key
@@ -35,12 +36,14 @@ asMutex (some (mutex m)) = some m
 asMutex (some (event e)) = none
 asMutex (some (timer t)) = none
 
+-- .. an event
 abbrev pub asEvent : Option Object → Option Event
 asEvent none = none
 asEvent (some (mutex m)) = none
 asEvent (some (event e)) = some e
 asEvent (some (timer t)) = none
 
+-- .. a timer
 abbrev pub asTimer : Option Object → Option Timer
 asTimer none = none
 asTimer (some (mutex m)) = none
@@ -51,9 +54,11 @@ asTimer (some (timer t)) = some t
 abbrev pub mutexAt : List Object → ℕ → Option Mutex
 mutexAt l k = asMutex (objectAt l k)
 
+-- the event with that key
 abbrev pub eventAt : List Object → ℕ → Option Event
 eventAt l k = asEvent (objectAt l k)
 
+-- the timer with that key
 abbrev pub timerAt : List Object → ℕ → Option Timer
 timerAt l k = asTimer (objectAt l k)
 
@@ -68,12 +73,14 @@ timersOf (mutex m ∷ l) = timersOf l
 timersOf (event e ∷ l) = timersOf l
 timersOf (timer t ∷ l) = t ∷ timersOf l
 
+-- the events
 abbrev pub eventsOf : List Object → List Event
 eventsOf [] = []
 eventsOf (mutex m ∷ l) = eventsOf l
 eventsOf (event e ∷ l) = e ∷ eventsOf l
 eventsOf (timer t ∷ l) = eventsOf l
 
+-- the mutexes
 abbrev pub mutexesOf : List Object → List Mutex
 mutexesOf [] = []
 mutexesOf (mutex m ∷ l) = m ∷ mutexesOf l
@@ -82,6 +89,7 @@ mutexesOf (timer t ∷ l) = mutexesOf l
 
 -- ---- changed records
 
+-- a mutex with an owner
 abbrev pub ownedBy : ℕ → Mutex → Object
 ownedBy id m = mutex (record { key = m .key; owner = id })
 
@@ -109,6 +117,7 @@ withSignal t b =
 
 -- ---- objects as a list names them
 
+-- the same kind and key
 abbrev pub sameNamed : Named → Named → Bool
 sameNamed a b = eqb (a .kind) (b .kind) && eqb (a .key) (b .key)
 
@@ -135,6 +144,7 @@ waitsOn d n = any (λ (t : Thread). listed n (waitOf (t .status) .objects)) (d .
 
 -- ---- "Available: a mutex without owner, a signaled event or timer, an exited thread."
 
+-- "a mutex without owner, a signaled event or timer"
 abbrev pub isFree : Object → Bool
 isFree (mutex m) = eqb (m .owner) 0
 isFree (event e) = e .signaled
@@ -149,6 +159,7 @@ isAvailable d n =
 
 -- ---- "Taking sets a mutex's owner and clears an auto-reset event or timer."
 
+-- what taking does to each kind
 abbrev pub takenBy : ℕ → Object → Object
 takenBy id (mutex m) = ownedBy id m
 takenBy id (event e) = signaledAs (cond (e .manual) (e .signaled) false) e
@@ -165,6 +176,7 @@ takeEvery id l (n ∷ ns) = takeEvery id (take id l n) ns
 
 -- ---- "'Any' takes the first available in list order and answers its index; 'all' takes every one or none and answers 0."
 
+-- every one is available
 abbrev pub everyAvailable : Dispatcher → List Named → Bool
 everyAvailable d [] = true
 everyAvailable d (n ∷ ns) = cond (isAvailable d n) (everyAvailable d ns) false
@@ -213,6 +225,7 @@ wake d = pass d (d .waiters)
 
 -- ---- timeouts
 
+-- a deadline at or before the time
 abbrev pub reached : Option ℕ → ℕ → Bool
 reached none now = false
 reached (some t) now = leb t now
