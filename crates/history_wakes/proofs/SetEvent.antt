@@ -38,20 +38,11 @@ module _ (s : State) (v : Valid s) (key : ℕ) (e : Event) (f : eventAt (s .disp
 
   -- ---- the pass
 
-  module _ (i : ℕ) (x : Wait) (was : statusOf (s .dispatcher) i ≡ waiting x) (any′ : x .all ≡ false) (m : Mem (eventNamed key) (x .objects)) where
+  -- of a thread that can be woken while the event is signaled
+  module _ (i : ℕ) (x : Wait) (was : statusOf (s .dispatcher) i ≡ waiting x) (wakes : (d : Dispatcher) → midst.Good s v key e f d → canWake d x ≡ true) where
     -- the thread has been granted its wait, or an earlier one that took the event
-    abbrev Either : Dispatcher → List ℕ → Type 0
+    abbrev pub Either : Dispatcher → List ℕ → Type 0
     Either d xs = Got (s .dispatcher) d key i ⊎ ((e .manual ≡ false) × (j : ℕ) × (Before j i xs) × Got (s .dispatcher) d key j)
-
-    -- while the event is signaled the thread can be woken
-    wakes : (d : Dispatcher) → Good d → canWake d x ≡ true
-    wakes d g = go (x .objects) refl m
-      where
-        go : (l : List Named) → x .objects ≡ l → Mem (eventNamed key) l → canWake d x ≡ true
-        go [] q z = absurd z
-        go (n ∷ l) q z =
-            ap (λ (l : List Named). cond (isEmpty l) false (isMet d l (x .all))) q ∙ ap (isMet d (n ∷ l)) any′
-            ∙ any-at (isAvailable d) (eventNamed key) (n ∷ l) z (ap (λ (o : Option Object). given (ofKind 1 o) false isFree) (g .signaled))
 
     passes : (xs : List ℕ) (d : Dispatcher) → Good d → Mem i xs → Distinct xs → ((y : ℕ) → Mem y xs → threadOf d y ≡ threadOf (s .dispatcher) y)
         → ((y : ℕ) → Mem y xs → (z : Wait) × (statusOf (s .dispatcher) y ≡ waiting z)) → Either (pass d xs) xs
@@ -95,7 +86,7 @@ module _ (s : State) (v : Valid s) (key : ℕ) (e : Event) (f : eventAt (s .disp
         go false q (no z) manual w rest =
             subst (λ (d′ : Dispatcher). Either (pass d′ xs) (y ∷ xs)) (sym (one false q)) (later (pass d xs) (rest d g (behind z) (λ j p. same j (inr p))))
 
-    woken-or-taken : Either (wake d₁) (s .dispatcher .waiters)
+    pub woken-or-taken : Either (wake d₁) (s .dispatcher .waiters)
     unfolding wake
     woken-or-taken = passes (d₀ .waiters) d₁ (midst.good-set s v key e f) (member-mem i (d₀ .waiters) (v .sound .standing .waiters-waiting i ∙ ap isWaiting was))
         (rising-distinct (sequenceAt (d₀ .threads)) (d₀ .waiters) (v .sound .standing .waiters-rising)) (λ y p. refl)
@@ -107,12 +98,22 @@ module _ (s : State) (v : Valid s) (key : ℕ) (e : Event) (f : eventAt (s .disp
         waits-for (waiting u) q = (u, refl)
         waits-for (exited k) q = absurd (not-both (sym q))
 
+  -- one of "any" can be
+  any-wakes : (x : Wait) → x .all ≡ false → Mem (eventNamed key) (x .objects) → (d : Dispatcher) → Good d → canWake d x ≡ true
+  any-wakes x any′ m d g = go (x .objects) refl m
+    where
+      go : (l : List Named) → x .objects ≡ l → Mem (eventNamed key) l → canWake d x ≡ true
+      go [] q z = absurd z
+      go (n ∷ l) q z =
+          ap (λ (l : List Named). cond (isEmpty l) false (isMet d l (x .all))) q ∙ ap (isMet d (n ∷ l)) any′
+          ∙ any-at (isAvailable d) (eventNamed key) (n ∷ l) z (ap (λ (o : Option Object). given (ofKind 1 o) false isFree) (g .signaled))
+
   -- ---- the call
 
   abbrev after : Dispatcher
   after = step (SetEvent key) s .state .dispatcher
 
-  after-is : step (SetEvent key) s .state .dispatcher ≡ wake d₁
+  pub after-is : step (SetEvent key) s .state .dispatcher ≡ wake d₁
   unfolding refusal signalRefusal effect eventSet
   after-is =
       ap (λ (o : Outcome). o .state .dispatcher) (step-is (SetEvent key) s (ap (λ (o : Option Event). cond (present o) 0 2) f))
@@ -127,7 +128,7 @@ module _ (s : State) (v : Valid s) (key : ℕ) (e : Event) (f : eventAt (s .disp
       (⊎-elim
       (λ (g : Got (s .dispatcher) (wake d₁) key i). inl (g .ready, g .result ∙ ap (λ (n : ℕ). some (satisfied n)) (place g)))
       (λ (t : (e .manual ≡ false) × (j : ℕ) × (Before j i (s .dispatcher .waiters)) × Got (s .dispatcher) (wake d₁) key j). inr t)
-      (woken-or-taken i x was any′ (nth-mem (x .objects) k (eventNamed key) at)))
+      (woken-or-taken i x was (any-wakes x any′ (nth-mem (x .objects) k (eventNamed key) at))))
     where
       place : (g : Got (s .dispatcher) (wake d₁) key i) → cond (g .for .all) 0 (g .place) ≡ k
       place g =
