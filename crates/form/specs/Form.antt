@@ -1,5 +1,6 @@
 -- Words in form, by the clauses of document 01, section "Limits". `threadsPass`, `objectsPass` and `dpcsPass` test each record for
 -- the clauses about a thread, an object and a DPC; that threads number 1 upward is so by their records' places.
+-- Beside the clauses words that say nothing hold 0, so that words in form are exactly those of the states in form.
 use mathlib.Core.Bool.{Bool, cond, false}
 use Prim.Native.Nat.{ℕ}
 use mathlib.Core.List.{List}

@@ -1,5 +1,5 @@
 -- The header in form.
-use mathlib.Core.Bool.{Bool, cond, true, false, not}
+use mathlib.Core.Bool.{Bool, cond, false, not}
 use Prim.Native.Nat.{ℕ}
 use mathlib.Core.List.{List}
 use lib.ListN.{getD, length}
@@ -31,13 +31,17 @@ currentPasses w = leb (getD w at.current 0) (getD w at.threads 0)
 unfoldable pub readyPasses : List ℕ → Bool
 readyPasses w = cond (ltb 4294967295 (getD w at.ready 0)) false (eqb (bitAt (getD w at.ready 0) 0) 0)
 
--- no policy, or one whose two timer arguments are not 0 and differ
+-- words that say nothing hold 0: the two timer arguments of no policy
+unfoldable pub noArguments : List ℕ → Bool
+noArguments w = cond (eqb (getD w at.timerArgument 0) 0) (eqb (getD w at.timerArgument2 0) 0) false
+
+-- no policy and no arguments, or a policy whose two timer arguments are not 0 and differ
 unfoldable pub policyPasses : List ℕ → Bool
 policyPasses w =
     let policy = getD w at.policy 0 in
     let first = getD w at.timerArgument 0 in
     let second = getD w at.timerArgument2 0 in
-    cond (eqb policy 0) true
+    cond (eqb policy 0) (noArguments w)
     (cond (eqb policy 1) (cond (eqb first 0) false (cond (eqb second 0) false (not (eqb first second)))) false)
 
 -- how many acceptances of DPC work there can be, and how many initializations of timers and of DPCs

@@ -12,6 +12,10 @@ use Rattle.form_dpc.specs.Place.{keyRises}
 use Rattle.form_dpc.specs.Timer.{timerNumbers, dpcServes}
 use Rattle.form.specs.Thread.{live}
 
+-- words that say nothing hold 0: the two flags of a mutex
+unfoldable pub mutexPasses : List ℕ → ℕ → Bool
+mutexPasses w place = cond (eqb (getD w (place + 2) 0) 0) (eqb (getD w (place + 3) 0) 0) false
+
 -- an event's two flags
 unfoldable pub eventPasses : List ℕ → ℕ → Bool
 eventPasses w place = cond (ltb 1 (getD w (place + 2) 0)) false (leb (getD w (place + 3) 0) 1)
@@ -21,14 +25,14 @@ unfoldable pub objectNumbers : List ℕ → ℕ → ℕ → Bool
 objectNumbers w base i =
     let kind = getD w (entryAt base i + 1) 0 in
     cond (eqb (keyAt w base i) 0) false
-    (cond (eqb kind 0) true
+    (cond (eqb kind 0) (mutexPasses w (entryAt base i))
     (cond (eqb kind 1) (eventPasses w (entryAt base i)) (cond (eqb kind 2) (timerNumbers w (entryAt base i)) false)))
 
--- document 01: owners are live
+-- document 01: owners are live; words that say nothing hold 0: the owner of what is no mutex
 unfoldable pub ownerLives : List ℕ → ℕ → ℕ → Bool
 ownerLives w base i =
     let owner = getD w (entryAt base i + 4) 0 in
-    cond (eqb (getD w (entryAt base i + 1) 0) 0) (cond (eqb owner 0) true (live w owner)) true
+    cond (eqb (getD w (entryAt base i + 1) 0) 0) (cond (eqb owner 0) true (live w owner)) (eqb owner 0)
 
 unfoldable pub objectPasses : List ℕ → ℕ → ℕ → Bool
 objectPasses w base i =

@@ -26,6 +26,10 @@ recordPasses w id =
     let t = threadOf w id in
     cond (badPriority (t .priority)) false (cond (badState (t .state)) false (cond (ltb 65 (t .result)) false (leb (t .status) 4294967295)))
 
+-- words that say nothing hold 0: the exit status of a thread that has not exited
+unfoldable pub exitPasses : List ℕ → ℕ → Bool
+exitPasses w id = cond (hasState w id 4) true (eqb (getD w (threadAt id + 5) 0) 0)
+
 -- the wait that a thread has, or had last: word 6 all, 7 timed, 10 the count of places, then their kinds
 unfoldable pub waitPasses : List ℕ → ℕ → Bool
 waitPasses w id =
@@ -39,7 +43,8 @@ delayPasses w id = cond (hasState w id 3) (cond (eqb (countOf w id) 0) (eqb (get
 
 -- document 01: stored numbers pass their checks, of a thread
 unfoldable pub threadNumbers : List ℕ → ℕ → Bool
-threadNumbers w id = cond (recordPasses w id) (cond (waitPasses w id) (delayPasses w id) false) false
+threadNumbers w id =
+    cond (recordPasses w id) (cond (exitPasses w id) (cond (waitPasses w id) (delayPasses w id) false) false) false
 
 -- document 01: only the current one runs
 unfoldable pub runsIfCurrent : List ℕ → ℕ → Bool

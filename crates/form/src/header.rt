@@ -1,7 +1,7 @@
 // The header in form: the limits, the length of the words, and the header's numbers.
 ghost use mathlib.Core.Path.{_≡_};
 ghost use mathlib.Core.Bool.{true};
-ghost use Rattle.form.specs.Header.{limitsPass, longEnough, countsPass, currentPasses, readyPasses, policyPasses, lifetimesPass, headerNumbers};
+ghost use Rattle.form.specs.Header.{limitsPass, longEnough, countsPass, currentPasses, readyPasses, noArguments, policyPasses, lifetimesPass, headerNumbers};
 use kernel::open;
 use words::layout;
 
@@ -64,13 +64,23 @@ fn ready_passes(w: &[u64]) -> bool
     words::bit_at(m, 0) == 0
 }
 
-// No policy, or one whose two timer arguments are not 0 and differ.
+// Words that say nothing hold 0: the two timer arguments of no policy.
+fn has_no_arguments(w: &[u64]) -> bool
+    ensures { λ r. ⌜ r ≡ noArguments (now (w .entry)) ⌝ }
+{
+    if words::get(w, layout::TIMER_ARGUMENT) != 0 {
+        return false;
+    }
+    words::get(w, layout::TIMER_ARGUMENT_2) == 0
+}
+
+// No policy and no arguments, or a policy whose two timer arguments are not 0 and differ.
 fn policy_passes(w: &[u64]) -> bool
     ensures { λ r. ⌜ r ≡ policyPasses (now (w .entry)) ⌝ }
 {
     let policy = words::get(w, layout::POLICY);
     if policy == 0 {
-        return true;
+        return has_no_arguments(w);
     }
     if policy != 1 {
         return false;

@@ -5,6 +5,8 @@
 //   limits pass their checks         header::limits_pass
 //   stored numbers pass theirs       header::numbers_pass, thread::numbers_pass, object::numbers_pass, timer::numbers_pass,
 //                                    dpc::numbers_pass
+//   and those that say nothing are 0 header::has_no_arguments, thread::exit_passes, object::mutex_passes, object::owner_lives,
+//                                    form_dpc::mapped_passes, dpc::origin_passes
 //   no key stands twice              form_dpc::key_rises, dpc::address_stands_once
 //   threads number 1 upward          nothing to test: a thread's number is the place of its record
 //   only the current one runs        thread::runs_if_current

@@ -1,9 +1,19 @@
 // The objects in form: each record's numbers, their order, who owns the mutexes, and the timers' DPCs.
 ghost use mathlib.Core.Path.{_≡_};
-ghost use Rattle.form.specs.Object.{eventPasses, objectNumbers, ownerLives, objectPasses, objectsPass};
+ghost use Rattle.form.specs.Object.{mutexPasses, eventPasses, objectNumbers, ownerLives, objectPasses, objectsPass};
 use super::thread;
 use form_dpc::timer;
 use words::layout;
+
+// Words that say nothing hold 0: the two flags of a mutex.
+fn mutex_passes(w: &[u64], at: usize) -> bool
+    ensures { λ r. ⌜ r ≡ mutexPasses (now (w .entry)) at ⌝ }
+{
+    if words::get_in(w, at, layout::MANUAL) != 0 {
+        return false;
+    }
+    words::get_in(w, at, layout::SIGNALED) == 0
+}
 
 // An event's two flags.
 fn event_passes(w: &[u64], at: usize) -> bool
@@ -15,8 +25,7 @@ fn event_passes(w: &[u64], at: usize) -> bool
     words::get_in(w, at, layout::SIGNALED) <= 1
 }
 
-// Document 01: stored numbers pass their checks, of an object. Words that its kind does not have may be anything; a mutex
-// has its owner only, which is another clause's.
+// Document 01: stored numbers pass their checks, of an object. Its owner is another clause's.
 fn numbers_pass(w: &[u64], base: usize, i: u64) -> bool
     ensures { λ r. ⌜ r ≡ objectNumbers (now (w .entry)) base i ⌝ }
 {
@@ -26,7 +35,7 @@ fn numbers_pass(w: &[u64], base: usize, i: u64) -> bool
     }
     let kind = words::get_in(w, at, layout::KIND);
     if kind == objects::MUTEX {
-        return true;
+        return mutex_passes(w, at);
     }
     if kind == objects::EVENT {
         return event_passes(w, at);
@@ -37,16 +46,16 @@ fn numbers_pass(w: &[u64], base: usize, i: u64) -> bool
     false
 }
 
-// Document 01: owners are live.
+// Document 01: owners are live. Words that say nothing hold 0: the owner of what is no mutex.
 fn owner_lives(w: &[u64], base: usize, i: u64) -> bool
     ensures { λ r. ⌜ r ≡ ownerLives (now (w .entry)) base i ⌝ }
 {
     let at = layout::entry_at(base, i);
     let kind = words::get_in(w, at, layout::KIND);
-    if kind != objects::MUTEX {
-        return true;
-    }
     let owner = words::get_in(w, at, layout::OWNER);
+    if kind != objects::MUTEX {
+        return owner == 0;
+    }
     if owner == 0 {
         return true;
     }

@@ -1,6 +1,6 @@
 // The threads in form: each record's numbers, who runs, and what the waiting ones wait for.
 ghost use mathlib.Core.Path.{_≡_};
-ghost use Rattle.form.specs.Thread.{hasState, live, badState, recordPasses, waitPasses, delayPasses, threadNumbers, runsIfCurrent, waitsForKnown, waitsForEachOnce, threadPasses, threadsPass, oneIf, stateCount};
+ghost use Rattle.form.specs.Thread.{hasState, live, badState, recordPasses, exitPasses, waitPasses, delayPasses, threadNumbers, runsIfCurrent, waitsForKnown, waitsForEachOnce, threadPasses, threadsPass, oneIf, stateCount};
 use kernel::open;
 use waits::lists;
 use words::layout;
@@ -47,6 +47,16 @@ fn record_passes(w: &[u64], id: u64) -> bool
     t.status <= 0xffff_ffff
 }
 
+// Words that say nothing hold 0: the exit status of a thread that has not exited.
+fn exit_passes(w: &[u64], id: u64) -> bool
+    ensures { λ r. ⌜ r ≡ exitPasses (now (w .entry)) id ⌝ }
+{
+    if has_state(w, id, threads::EXITED) {
+        return true;
+    }
+    words::get_in(w, layout::thread_at(id), layout::STATUS) == 0
+}
+
 // The wait that a thread has, or had last: two flags, at most 64 places, and kinds.
 fn wait_passes(w: &[u64], id: u64) -> bool
     ensures { λ r. ⌜ r ≡ waitPasses (now (w .entry)) id ⌝ }
@@ -82,6 +92,9 @@ fn numbers_pass(w: &[u64], id: u64) -> bool
     ensures { λ r. ⌜ r ≡ threadNumbers (now (w .entry)) id ⌝ }
 {
     if !record_passes(w, id) {
+        return false;
+    }
+    if !exit_passes(w, id) {
         return false;
     }
     if !wait_passes(w, id) {

@@ -1,5 +1,6 @@
 -- The DPCs in form. Word 0 of a DPC's record is its address, 1 its phase (0 idle, 1 queued, 2 running, 3 returning), 3 the
--- inserted timer that has it, 4 the architecture, 5 to 8 the backing, 11 the work's sequence, 14 its origin, 20 periodic.
+-- inserted timer that has it, 4 the architecture, 5 to 8 the backing, 11 the work's sequence, 14 its origin (0 no
+-- timer), 15 to 20 the timer that put it into the queue, the last of them periodic.
 use mathlib.Core.Bool.{Bool, cond, true, false}
 use Prim.Native.Nat.{ℕ, zero, suc, _+_}
 use mathlib.Core.List.{List}
@@ -17,10 +18,24 @@ use Rattle.form_dpc.specs.Timer.{hasDpc}
 unfoldable pub dpcPlaced : List ℕ → ℕ → Bool
 dpcPlaced w place = located w place 4 (dpcSize (architectureOf (getD w (place + 4) 0)))
 
--- the flags of its work, which says nothing while the DPC is idle
+-- words 15 to 20 name no timer
+unfoldable pub namesNoTimer : List ℕ → ℕ → Bool
+namesNoTimer w place =
+    cond (eqb (getD w (place + 15) 0) 0)
+    (cond (eqb (getD w (place + 16) 0) 0)
+    (cond (eqb (getD w (place + 17) 0) 0)
+    (cond (eqb (getD w (place + 18) 0) 0)
+    (cond (eqb (getD w (place + 19) 0) 0) (eqb (getD w (place + 20) 0) 0) false) false) false) false) false
+
+-- words that say nothing hold 0: the timer's words of work that no timer put into the queue
+unfoldable pub originPasses : List ℕ → ℕ → Bool
+originPasses w place = cond (eqb (getD w (place + 14) 0) 0) (namesNoTimer w place) true
+
+-- the flags of its work and its origin, which say nothing while the DPC is idle
 unfoldable pub workPasses : List ℕ → ℕ → Bool
 workPasses w place =
-    cond (eqb (getD w (place + 1) 0) 0) true (cond (ltb 1 (getD w (place + 14) 0)) false (leb (getD w (place + 20) 0) 1))
+    cond (eqb (getD w (place + 1) 0) 0) true
+    (cond (ltb 1 (getD w (place + 14) 0)) false (cond (originPasses w place) (leb (getD w (place + 20) 0) 1) false))
 
 -- document 01: stored numbers pass their checks, of a DPC
 unfoldable pub dpcNumbers : List ℕ → ℕ → Bool

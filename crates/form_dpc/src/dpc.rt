@@ -1,6 +1,6 @@
 // The DPCs in form: each record's numbers, its address, its work and its timer; and how many have a phase.
 ghost use mathlib.Core.Path.{_≡_};
-ghost use Rattle.form_dpc.specs.Dpc.{dpcPlaced, workPasses, dpcNumbers, addressOnce, sequenceGiven, namedRightly, dpcPasses, dpcsPass, hasPhase, phaseOne, phaseCount};
+ghost use Rattle.form_dpc.specs.Dpc.{dpcPlaced, namesNoTimer, originPasses, workPasses, dpcNumbers, addressOnce, sequenceGiven, namedRightly, dpcPasses, dpcsPass, hasPhase, phaseOne, phaseCount};
 use super::timer;
 use dpcs::record;
 use words::layout;
@@ -20,7 +20,39 @@ fn location_passes(w: &[u64], at: usize) -> bool
     super::location_passes(w, at, layout::DPC_ARCHITECTURE, images::dpc_size(a))
 }
 
-// The flags of its work, which says nothing while the DPC is idle.
+// Whether the words of a timer that put work into the queue name none.
+fn names_no_timer(w: &[u64], at: usize) -> bool
+    ensures { λ r. ⌜ r ≡ namesNoTimer (now (w .entry)) at ⌝ }
+{
+    if words::get_in(w, at, layout::ORIGIN_TIMER) != 0 {
+        return false;
+    }
+    if words::get_in(w, at, layout::ORIGIN_ARM) != 0 {
+        return false;
+    }
+    if words::get_in(w, at, layout::ORIGIN_INITIALIZATION) != 0 {
+        return false;
+    }
+    if words::get_in(w, at, layout::ORIGIN_DEADLINE) != 0 {
+        return false;
+    }
+    if words::get_in(w, at, layout::ORIGIN_OBSERVED) != 0 {
+        return false;
+    }
+    words::get_in(w, at, layout::ORIGIN_PERIODIC) == 0
+}
+
+// Words that say nothing hold 0: the timer's words of work that no timer put into the queue.
+fn origin_passes(w: &[u64], at: usize) -> bool
+    ensures { λ r. ⌜ r ≡ originPasses (now (w .entry)) at ⌝ }
+{
+    if words::get_in(w, at, layout::ORIGIN) == 0 {
+        return names_no_timer(w, at);
+    }
+    true
+}
+
+// The flags of its work and its origin, which say nothing while the DPC is idle.
 fn work_passes(w: &[u64], at: usize) -> bool
     ensures { λ r. ⌜ r ≡ workPasses (now (w .entry)) at ⌝ }
 {
@@ -28,6 +60,9 @@ fn work_passes(w: &[u64], at: usize) -> bool
         return true;
     }
     if 1 < words::get_in(w, at, layout::ORIGIN) {
+        return false;
+    }
+    if !origin_passes(w, at) {
         return false;
     }
     words::get_in(w, at, layout::ORIGIN_PERIODIC) <= 1

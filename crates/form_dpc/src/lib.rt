@@ -1,7 +1,7 @@
 // The timers and the DPCs in form: what `form` tests of them, clause by clause of document 01's sentence.
 ghost use mathlib.Core.Path.{_≡_};
 ghost use Prim.Native.Nat.{_≤_};
-ghost use Rattle.form_dpc.specs.Place.{keyRises, located};
+ghost use Rattle.form_dpc.specs.Place.{keyRises, mappedPasses, located};
 
 pub mod counts;
 pub mod dpc;
@@ -16,6 +16,16 @@ pub fn key_rises(w: &[u64], base: usize, i: u64) -> bool
         return true;
     }
     tables::key_at(w, base, i - 1) < tables::key_at(w, base, i)
+}
+
+// Words that say nothing hold 0: the mapped bytes of an image.
+fn mapped_passes(kind: u64, mapped: u64) -> bool
+    ensures { λ r. ⌜ r ≡ mappedPasses kind mapped ⌝ }
+{
+    if kind == 0 {
+        return mapped == 0;
+    }
+    true
 }
 
 // Whether what stands at place `at` may stand in the guest's memory as its words say, with `size` bytes. The five words from
@@ -35,6 +45,9 @@ fn location_passes(w: &[u64], at: usize, from: usize, size: u64) -> bool
     let base = words::get_in(w, at, from + 2);
     let length = words::get_in(w, at, from + 3);
     let mapped = words::get_in(w, at, from + 4);
+    if !mapped_passes(kind, mapped) {
+        return false;
+    }
     let b = images::backing_of(kind, base, length, mapped);
     images::location_refusal(words::get(w, at), size, images::architecture_of(n), b) == 0
 }

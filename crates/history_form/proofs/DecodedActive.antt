@@ -24,7 +24,7 @@ use Rattle.history.specs.Agree.{Agreeing, dpcsFrom}
 use Rattle.history.proofs.Headers.{dpcs-few}
 use Rattle.history.proofs.Lookups.{dpcs-base-is, dpc-keys, dpc-place, dpc-row}
 use Rattle.history_form.specs.Decoded.{limitsOf, tableOf, decoded}
-use Rattle.history_form.specs.Silent.{Words, Silent}
+use Rattle.history_form.specs.Words.{Words}
 use Rattle.history_form.proofs.Clauses.{not-first, both}
 use Rattle.history_form.proofs.TimerRecords.{first-passing, first-is}
 use Rattle.history_form.proofs.PhaseCounts.{active-count}
@@ -82,9 +82,9 @@ starts-form w e =
     rest : List ℕ → Bool
     rest v = cond (eqb (dpcFound v (getD v 25 0)) 0) false (leb 2 (getD v (dpcFound v (getD v 25 0) + 1) 0))
 
-module _ (w : List ℕ) (words : Words w) (s : Silent w) (p : Parts w) where
+module _ (w : List ℕ) (words : Words w) (p : Parts w) where
   a₀ : Agreeing w (decoded w) (told w) (getD w 25 0)
-  a₀ = agreeing-told w words s p
+  a₀ = agreeing-told w words p
 
   abbrev table : List Dpc
   table = tableOf w

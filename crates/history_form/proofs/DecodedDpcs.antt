@@ -22,10 +22,9 @@ use Rattle.history.specs.Row.{Row}
 use Rattle.history.specs.Records.{phaseNumber, originRow, workRow, dpcRow}
 use Rattle.history.specs.Agree.{DpcTable, dpcsFrom}
 use Rattle.history_form.specs.Decoded.{limitsOf, dpcOf, tableOf}
-use Rattle.history_form.specs.Silent.{DpcSilent, Silent}
 use Rattle.history_form.proofs.Each.{flag-number, From, each-nth, mem-each, rising-each, row-from, ends, says, skips}
 use Rattle.history_form.proofs.Located.{not-at-zero}
-use Rattle.history_form.proofs.DpcForm.{DpcForm, DpcsForm}
+use Rattle.history_form.proofs.DpcForm.{NoTimer, DpcForm, DpcsForm}
 use Rattle.history_form.proofs.DecodedObjects.{architecture-number, backed}
 
 module _ (w : List ℕ) (place : ℕ) where
@@ -51,19 +50,18 @@ module _ (w : List ℕ) (place : ℕ) where
 
   -- ---- work
 
-  origin-by : (n : ℕ) → n ≤ 1 → getD w (place + 14) 0 ≡ n → (n ≡ 0 → (k : ℕ) → 15 ≤ k → k ≤ 20 → getD w (place + k) 0 ≡ 0) → getD w (place + 20) 0 ≤ 1
+  origin-by : (n : ℕ) → n ≤ 1 → getD w (place + 14) 0 ≡ n → (n ≡ 0 → NoTimer w place) → getD w (place + 20) 0 ≤ 1
       → From w place 14 (originRow (cond (eqb n 0) origin.Caller (timerOrigin w place)))
   unfolding timerOrigin
   origin-by zero h e s p =
       let z = s refl in
-      says e (says (z 15 (omega arith) (omega arith)) (says (z 16 (omega arith) (omega arith)) (says (z 17 (omega arith) (omega arith))
-      (says (z 18 (omega arith) (omega arith)) (says (z 19 (omega arith) (omega arith)) (says (z 20 (omega arith) (omega arith)) ends))))))
+      says e (says (z .0) (says (z .1) (says (z .2) (says (z .3) (says (z .4) (says (z .5) ends))))))
   origin-by (suc zero) h e s p = says e (says refl (says refl (says refl (says refl (says refl (says (flag-number (getD w (place + 20) 0) p) ends))))))
   origin-by (suc (suc n)) h e s p = absurd (omega arith)
 
-  work-row : DpcForm w place → DpcSilent w place → (getD w (place + 1) 0 ≡ 0 → ⊥) → From w place 11 (workRow (some (workAt w place)))
+  work-row : DpcForm w place → (getD w (place + 1) 0 ≡ 0 → ⊥) → From w place 11 (workRow (some (workAt w place)))
   unfolding workAt originAt
-  work-row f s busy = says refl (says refl (says refl (origin-by (getD w (place + 14) 0) (f .flags busy .0) refl (s .caller busy) (f .flags busy .1))))
+  work-row f busy = says refl (says refl (says refl (origin-by (getD w (place + 14) 0) (f .flags busy .0) refl (f .caller busy) (f .flags busy .1))))
 
   works : (n : ℕ) → n ≤ 3 → ((n ≡ 0 → ⊥) → From w place 11 (workRow (some (workAt w place)))) → From w place 11 (workRow (workOf (phase-by n)))
   unfolding phase-by
@@ -75,10 +73,10 @@ module _ (w : List ℕ) (place : ℕ) where
 
   -- ---- the row
 
-  pub dpc-row : DpcForm w place → DpcSilent w place → Row w place (dpcRow (getD w (place + 3) 0) (dpcAt w place))
+  pub dpc-row : DpcForm w place → Row w place (dpcRow (getD w (place + 3) 0) (dpcAt w place))
   unfolding dpcAt backingAt
-  dpc-row f s =
-      let b = backed (getD w (place + 5) 0) (getD w (place + 6) 0) (getD w (place + 7) 0) (getD w (place + 8) 0) (f .stands .kind) (s .image) in
+  dpc-row f =
+      let b = backed (getD w (place + 5) 0) (getD w (place + 6) 0) (getD w (place + 7) 0) (getD w (place + 8) 0) (f .stands .kind) (f .stands .image) in
       let z : place + 0 ≡ place = omega arith in
       row-from w place (dpcRow (getD w (place + 3) 0) (dpcAt w place))
       (says (ap (λ (p : ℕ). getD w p 0) z)
@@ -87,7 +85,7 @@ module _ (w : List ℕ) (place : ℕ) where
       (says (architecture-number (getD w (place + 4) 0) (f .stands .architecture))
       (says (b .of-kind) (says (b .of-base) (says (b .of-size) (says (b .of-mapped)
       (says refl (says refl
-      (subst (λ (p : DpcPhase). From w place 11 (workRow (workOf p))) (sym phase-is) (works (getD w (place + 1) 0) (f .phase) (work-row f s))))))))))))))
+      (subst (λ (p : DpcPhase). From w place 11 (workRow (workOf p))) (sym phase-is) (works (getD w (place + 1) 0) (f .phase) (work-row f))))))))))))))
 
   pub address-is : dpcAt w place .address ≡ getD w place 0
   unfolding dpcAt
@@ -134,10 +132,10 @@ module _ (w : List ℕ) (f : DpcsForm w) where
       dpc-there w (dpcsFrom (limitsOf w) + 32 * h .0) (f .forms (h .0) (omega (arith, h .2))) (ap addressOf (sym (h .3)) ∙ e)
 
   -- with any holder that tells word 3
-  pub dpcs-hold : Silent w → (holder : ℕ → ℕ) → ((i : ℕ) → i < getD w 5 0 → getD w (dpcsFrom (limitsOf w) + 32 * i + 3) 0 ≡ holder (dpcOf w i .address)) → DpcTable w (dpcsFrom (limitsOf w)) holder (tableOf w)
-  dpcs-hold s holder h i d e =
+  pub dpcs-hold : (holder : ℕ → ℕ) → ((i : ℕ) → i < getD w 5 0 → getD w (dpcsFrom (limitsOf w) + 32 * i + 3) 0 ≡ holder (dpcOf w i .address)) → DpcTable w (dpcsFrom (limitsOf w)) holder (tableOf w)
+  dpcs-hold holder h i d e =
       let k = each-nth (dpcOf w) (getD w 5 0) 0 i d e in
       let z : 0 + i ≡ i = omega arith in
       let place = dpcsFrom (limitsOf w) + 32 * i in
       subst (λ (x : Dpc). Row w place (dpcRow (holder (x .address)) x)) (sym (k .1 ∙ ap (dpcOf w) z))
-      (subst (λ (n : ℕ). Row w place (dpcRow n (dpcOf w i))) (h i (k .0)) (dpc-row w place (f .forms i (k .0)) (s .dpcs i (k .0))))
+      (subst (λ (n : ℕ). Row w place (dpcRow n (dpcOf w i))) (h i (k .0)) (dpc-row w place (f .forms i (k .0))))

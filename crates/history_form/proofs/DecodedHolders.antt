@@ -24,7 +24,7 @@ use Rattle.history.specs.Records.{flag, holds, holderOf}
 use Rattle.history.specs.Agree.{Agreeing, objectsFrom, dpcsFrom}
 use Rattle.history.proofs.Lookups.{dpc-place, place-of, object-row}
 use Rattle.history_form.specs.Decoded.{limitsOf, objectBy, objectOf, objectsOf, dpcOf, decoded}
-use Rattle.history_form.specs.Silent.{Words, Silent}
+use Rattle.history_form.specs.Words.{Words}
 use Rattle.history_form.proofs.Clauses.{not-first}
 use Rattle.history_form.proofs.Each.{mem-each}
 use Rattle.history_form.proofs.TimerRecords.{first-passing, first-is, holds-both}
@@ -90,9 +90,9 @@ is-set : (b : Bool) → (flag b ≡ 0 → ⊥) → b ≡ true
 is-set true h = refl
 is-set false h = absurd (h refl)
 
-module _ (w : List ℕ) (words : Words w) (s : Silent w) (p : Parts w) where
+module _ (w : List ℕ) (words : Words w) (p : Parts w) where
   a₀ : Agreeing w (decoded w) (told w) (getD w 25 0)
-  a₀ = agreeing-told w words s p
+  a₀ = agreeing-told w words p
 
   abbrev objects : List Object
   objects = objectsOf w
@@ -150,10 +150,10 @@ module _ (w : List ℕ) (words : Words w) (s : Silent w) (p : Parts w) where
             (t, timer-found-mem objects key t (n .1), ap (λ (b : Bool). cond b (eqb (t .dpc) address) false) inserted ∙ eq-eqb (t .dpc) address dpc)
 
     pub holder-told : getD w (place + 3) 0 ≡ holderOf objects address
-    holder-told = told-is w words s p i small ∙ go (firstOf (holds address) (timersOf objects)) refl
+    holder-told = told-is w words p i small ∙ go (firstOf (holds address) (timersOf objects)) refl
       where
         by-name : firstOf (holds address) (timersOf objects) ≡ none → Dec (getD w (place + 3) 0 ≡ 0) → told w address ≡ 0
-        by-name e (yes q) = sym (told-is w words s p i small) ∙ q
+        by-name e (yes q) = sym (told-is w words p i small) ∙ q
         by-name e (no q) =
             let t = named q in
             let f = first-passing (holds address) (timersOf objects) (t .0) (t .1) (t .2) in

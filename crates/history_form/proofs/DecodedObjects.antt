@@ -18,7 +18,7 @@ use Rattle.history.specs.Records.{timerRow, objectRow}
 use Rattle.history.specs.Shape.{ObjectFits}
 use Rattle.history.specs.Agree.{Objects, objectsFrom}
 use Rattle.history_form.specs.Decoded.{limitsOf, objectBy, objectOf, objectsOf}
-use Rattle.history_form.specs.Silent.{Words, ObjectSilent, Silent}
+use Rattle.history_form.specs.Words.{Words}
 use Rattle.history_form.proofs.Each.{flag-number, each-nth, mem-each, rising-each, row-from, ends, says}
 use Rattle.history_form.proofs.TimerForm.{TimerForm}
 use Rattle.history_form.proofs.ObjectForm.{ObjectForm, ObjectsForm}
@@ -50,15 +50,15 @@ module _ (w : List ℕ) (place : ℕ) where
   zeroth : getD w (place + 0) 0 ≡ getD w place 0
   zeroth = ap (λ (p : ℕ). getD w p 0) (let z : place + 0 ≡ place = omega arith in z)
 
-  timer-row : getD w (place + 1) 0 ≡ 2 → TimerForm w place → ObjectSilent w place → Row w place (timerRow (timerAt w place))
+  timer-row : getD w (place + 1) 0 ≡ 2 → TimerForm w place → getD w (place + 4) 0 ≡ 0 → Row w place (timerRow (timerAt w place))
   unfolding timerAt backingAt
-  timer-row k f s =
-      let b = backed (getD w (place + 13) 0) (getD w (place + 14) 0) (getD w (place + 15) 0) (getD w (place + 16) 0) (f .stands .kind) (s .image k) in
+  timer-row k f no-owner =
+      let b = backed (getD w (place + 13) 0) (getD w (place + 14) 0) (getD w (place + 15) 0) (getD w (place + 16) 0) (f .stands .kind) (f .stands .image) in
       row-from w place (timerRow (timerAt w place))
       (says refl (says k
       (says (flag-number (getD w (place + 2) 0) (f .manual))
       (says (flag-number (getD w (place + 3) 0) (f .signaled))
-      (says (s .owner (λ q. omega (arith, q, k)))
+      (says no-owner
       (says (flag-number (getD w (place + 5) 0) (f .inserted))
       (says refl (says refl (says refl
       (says (flag-number (getD w (place + 9) 0) (f .absolute))
@@ -66,14 +66,14 @@ module _ (w : List ℕ) (place : ℕ) where
       (says (architecture-number (getD w (place + 12) 0) (f .stands .architecture))
       (says (b .of-kind) (says (b .of-base) (says (b .of-size) (says (b .of-mapped) ends)))))))))))))))))
 
-  object-row : (kind : ℕ) → getD w (place + 1) 0 ≡ kind → ObjectForm w place → ObjectSilent w place → Row w place (objectRow (objectBy w place kind))
-  object-row zero k f s =
-      row-from w place (objectRow (objectBy w place 0)) (says zeroth (says k (says (s .mutex k .0) (says (s .mutex k .1) (says refl ends)))))
-  object-row (suc zero) k f s =
+  object-row : (kind : ℕ) → getD w (place + 1) 0 ≡ kind → ObjectForm w place → Row w place (objectRow (objectBy w place kind))
+  object-row zero k f =
+      row-from w place (objectRow (objectBy w place 0)) (says zeroth (says k (says (f .mutex k .0) (says (f .mutex k .1) (says refl ends)))))
+  object-row (suc zero) k f =
       row-from w place (objectRow (objectBy w place 1))
-      (says zeroth (says k (says (flag-number (getD w (place + 2) 0) (f .event k .0)) (says (flag-number (getD w (place + 3) 0) (f .event k .1)) (says (s .owner (λ q. omega (arith, q, k))) ends)))))
-  object-row (suc (suc zero)) k f s = timer-row k (f .timer k) s
-  object-row (suc (suc (suc n))) k f s = absurd (omega (arith, k, f .kind))
+      (says zeroth (says k (says (flag-number (getD w (place + 2) 0) (f .event k .0)) (says (flag-number (getD w (place + 3) 0) (f .event k .1)) (says (f .no-owner (λ q. omega (arith, q, k))) ends)))))
+  object-row (suc (suc zero)) k f = timer-row k (f .timer k) (f .no-owner (λ q. omega (arith, q, k)))
+  object-row (suc (suc (suc n))) k f = absurd (omega (arith, k, f .kind))
 
   key-word : (kind : ℕ) → kind ≤ 2 → keyOf (objectBy w place kind) ≡ getD w place 0
   unfolding timerAt
@@ -96,13 +96,13 @@ module _ (w : List ℕ) (f : ObjectsForm w) where
       let place = objectsFrom (limitsOf w) + 32 * i in
       key-word w place (getD w (place + 1) 0) (f .forms i h .kind)
 
-  pub objects-hold : Silent w → Objects w (objectsFrom (limitsOf w)) (objectsOf w)
-  objects-hold s i x e =
+  pub objects-hold : Objects w (objectsFrom (limitsOf w)) (objectsOf w)
+  objects-hold i x e =
       let h = each-nth (objectOf w) (getD w 4 0) 0 i x e in
       let z : 0 + i ≡ i = omega arith in
       let place = objectsFrom (limitsOf w) + 32 * i in
       subst (λ (y : Object). Row w place (objectRow y)) (sym (h .1 ∙ ap (objectOf w) z))
-      (object-row w place (getD w (place + 1) 0) refl (f .forms i (h .0)) (s .objects i (h .0)))
+      (object-row w place (getD w (place + 1) 0) refl (f .forms i (h .0)))
 
   pub objects-rise : Rising keyOf (objectsOf w)
   objects-rise =

@@ -16,7 +16,6 @@ use Rattle.history.specs.Records.{timed, statusNumber, exitStatus, resultNumber
 use Rattle.history.specs.Shape.{WaitFits, StatusFits, ThreadFits, ThreadsFit}
 use Rattle.history.specs.Agree.{Threads, Waits, WaitIs, WaitOf}
 use Rattle.history_form.specs.Decoded.{each, namedAt, deadlineAt, waitAt, statusBy, resultBy, threadBy, threadsOf}
-use Rattle.history_form.specs.Silent.{Silent}
 use Rattle.history_form.proofs.Each.{flag-number, length-each, mem-each, read-each, read-past, From, row-from, ends, says, skips, may}
 use Rattle.history_form.proofs.ThreadForm.{ThreadForm}
 
@@ -71,13 +70,13 @@ module _ (w : List ℕ) where
   at-word : (i j k : ℕ) → i ≡ j + k → getD w (j + k) 0 ≡ getD w i 0
   at-word i j k e = ap (λ (p : ℕ). getD w p 0) (sym e)
 
-  thread-row : (i : ℕ) → ThreadForm w i → ((getD w (97 + 160 * i) 0 ≡ 4 → ⊥) → getD w (101 + 160 * i) 0 ≡ 0) → Row w (96 + 160 * i) (threadRow (threadBy w i))
-  thread-row i t s = row-from w (96 + 160 * i) (threadRow (threadBy w i))
+  thread-row : (i : ℕ) → ThreadForm w i → Row w (96 + 160 * i) (threadRow (threadBy w i))
+  thread-row i t = row-from w (96 + 160 * i) (threadRow (threadBy w i))
       (says (at-word (96 + 160 * i) (96 + 160 * i) 0 (omega arith))
       (says (at-word (97 + 160 * i) (96 + 160 * i) 1 (omega arith) ∙ sym (status-number i (getD w (97 + 160 * i) 0) (t .one-state) (t .small-state)))
       (skips (skips
       (says (at-word (100 + 160 * i) (96 + 160 * i) 4 (omega arith) ∙ sym (result-number (getD w (100 + 160 * i) 0)))
-      (says (at-word (101 + 160 * i) (96 + 160 * i) 5 (omega arith) ∙ exit-status i (getD w (97 + 160 * i) 0) (t .one-state) (t .small-state) s) ends))))))
+      (says (at-word (101 + 160 * i) (96 + 160 * i) 5 (omega arith) ∙ exit-status i (getD w (97 + 160 * i) 0) (t .one-state) (t .small-state) (t .no-exit)) ends))))))
 
   places-from : (place m j : ℕ) → From w place (2 * j) (placesRow (each (namedAt w place) m j))
   places-from place zero j = ends
@@ -124,14 +123,14 @@ module _ (w : List ℕ) where
   status-fits i (suc (suc (suc (suc zero)))) p q t = tt
   status-fits i (suc (suc (suc (suc (suc n))))) p q t = absurd (omega arith)
 
-  module _ (s : Silent w) (forms : (i : ℕ) → 1 ≤ i → i ≤ getD w 3 0 → ThreadForm w i) where
+  module _ (forms : (i : ℕ) → 1 ≤ i → i ≤ getD w 3 0 → ThreadForm w i) where
     size : length (threadsOf w) ≡ getD w 3 0
     size = length-each (threadBy w) (getD w 3 0) 1
 
     pub threads-hold : Threads w (threadsOf w)
     threads-hold i one le =
         let few : i ≤ getD w 3 0 = omega (arith, size) in
-        subst (λ (t : Thread). Row w (96 + 160 * i) (threadRow t)) (sym (thread-at i one few)) (thread-row i (forms i one few) (s .statuses i one few))
+        subst (λ (t : Thread). Row w (96 + 160 * i) (threadRow t)) (sym (thread-at i one few)) (thread-row i (forms i one few))
 
     pub waits-hold : Waits w (threadsOf w)
     waits-hold =

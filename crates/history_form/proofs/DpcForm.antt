@@ -1,11 +1,11 @@
 -- What the clauses on DPCs say of words in form.
 use Prim.Native.Nat.{ℕ, zero, suc, _+_, _*_, _≤_, _<_}
 use mathlib.Core.List.{List}
-use mathlib.Core.Bool.{cond, true, false}
+use mathlib.Core.Bool.{Bool, cond, true, false}
 use mathlib.Core.Path.{_≡_, sym, ap, _∙_, subst}
 use native.Mathlib.Omega.{arith}
 use native.Mathlib.Decide.{ℕ-discrete}
-use borrow.Author.Tests.{ne-eqb, eqb-true, eqb-false, leb-true, ltb-false}
+use borrow.Author.Tests.{eq-eqb, ne-eqb, eqb-true, eqb-false, leb-true, ltb-false}
 use lib.ListN.{getD}
 use lib.Dec.{eqb, leb, ltb}
 use Rattle.words.specs.Layout.{entryAt}
@@ -15,32 +15,59 @@ use Rattle.objects.specs.Objects.{dpcsBase, objectFound, placeOf}
 use Rattle.dpcs.specs.Record.{dpcCount}
 use Rattle.form_dpc.specs.Place.{keyRises}
 use Rattle.form_dpc.specs.Timer.{hasDpc}
-use Rattle.form_dpc.specs.Dpc.{dpcPlaced, workPasses, dpcNumbers, addressOnce, sequenceGiven, namedRightly, dpcPasses, dpcsIn, dpcsPass}
+use Rattle.form_dpc.specs.Dpc.{dpcPlaced, namesNoTimer, originPasses, workPasses, dpcNumbers, addressOnce, sequenceGiven, namedRightly, dpcPasses, dpcsIn, dpcsPass}
 use Rattle.history.specs.Agree.{dpcsFrom}
 use Rattle.history.proofs.Places.{entry-place}
 use Rattle.history_tables.proofs.Search.{key-is}
 use Rattle.history_form.specs.Decoded.{limitsOf}
-use Rattle.history_form.proofs.Clauses.{both, not-first, if-not}
+use Rattle.history_form.proofs.Clauses.{both, not-first, if-so, if-not}
 use Rattle.history_form.proofs.HeaderForm.{Counted, dpc-count, dpcs-base, low}
 use Rattle.history_form.proofs.TimerForm.{PlacedAt, located-form, rises-form}
+
+-- words 15 to 20 of a record
+abbrev pub NoTimer : List ℕ → ℕ → Type 0
+NoTimer w place = (getD w (place + 15) 0 ≡ 0) × (getD w (place + 16) 0 ≡ 0) × (getD w (place + 17) 0 ≡ 0) × (getD w (place + 18) 0 ≡ 0) × (getD w (place + 19) 0 ≡ 0) × (getD w (place + 20) 0 ≡ 0)
 
 pub record DpcForm (w : List ℕ) (place : ℕ) : Type 0 where
   pub phase : getD w (place + 1) 0 ≤ 3
   pub stands : PlacedAt w place 4 (dpcSize (architectureOf (getD w (place + 4) 0)))
   pub flags : (getD w (place + 1) 0 ≡ 0 → ⊥) → (getD w (place + 14) 0 ≤ 1) × (getD w (place + 20) 0 ≤ 1)
+  pub caller : (getD w (place + 1) 0 ≡ 0 → ⊥) → getD w (place + 14) 0 ≡ 0 → NoTimer w place
   pub no-object : objectFound w (getD w place 0) ≡ 0
   pub given : (getD w (place + 1) 0 ≡ 0 → ⊥) → (1 ≤ getD w (place + 11) 0) × (getD w (place + 11) 0 ≤ getD w 13 0)
   pub named : (getD w (place + 3) 0 ≡ 0 → ⊥) → (placeOf w 2 (getD w (place + 3) 0) ≡ 0 → ⊥) × (hasDpc w (placeOf w 2 (getD w (place + 3) 0)) (getD w place 0) ≡ true)
 
 module _ (w : List ℕ) (place : ℕ) where
-  work-form : workPasses w place ≡ true → (getD w (place + 1) 0 ≡ 0 → ⊥) → (getD w (place + 14) 0 ≤ 1) × (getD w (place + 20) 0 ≤ 1)
+  no-timer-form : namesNoTimer w place ≡ true → NoTimer w place
+  unfolding namesNoTimer
+  no-timer-form e =
+      let t : ℕ → Bool = λ k. eqb (getD w (place + k) 0) 0 in
+      let a = both (t 15) (cond (t 16) (cond (t 17) (cond (t 18) (cond (t 19) (t 20) false) false) false) false) e in
+      let b = both (t 16) (cond (t 17) (cond (t 18) (cond (t 19) (t 20) false) false) false) (a .1) in
+      let c = both (t 17) (cond (t 18) (cond (t 19) (t 20) false) false) (b .1) in
+      let d = both (t 18) (cond (t 19) (t 20) false) (c .1) in
+      let f = both (t 19) (t 20) (d .1) in (
+        eqb-true (getD w (place + 15) 0) 0 (a .0),
+        eqb-true (getD w (place + 16) 0) 0 (b .0),
+        eqb-true (getD w (place + 17) 0) 0 (c .0),
+        eqb-true (getD w (place + 18) 0) 0 (d .0),
+        eqb-true (getD w (place + 19) 0) 0 (f .0),
+        eqb-true (getD w (place + 20) 0) 0 (f .1),
+      )
+
+  origin-form : originPasses w place ≡ true → getD w (place + 14) 0 ≡ 0 → NoTimer w place
+  unfolding originPasses
+  origin-form e q = no-timer-form (if-so (eqb (getD w (place + 14) 0) 0) (namesNoTimer w place) e (eq-eqb (getD w (place + 14) 0) 0 q))
+
+  work-form : workPasses w place ≡ true → (getD w (place + 1) 0 ≡ 0 → ⊥) → (getD w (place + 14) 0 ≤ 1) × (getD w (place + 20) 0 ≤ 1) × (originPasses w place ≡ true)
   unfolding workPasses
   work-form e h =
       let x = getD w (place + 14) 0 in
       let y = getD w (place + 20) 0 in
-      let a = if-not (eqb (getD w (place + 1) 0) 0) (cond (ltb 1 x) false (leb y 1)) e (ne-eqb (getD w (place + 1) 0) 0 h) in
-      let b = not-first (ltb 1 x) (leb y 1) a in
-      (ltb-false 1 x (b .0), leb-true y 1 (b .1))
+      let a = if-not (eqb (getD w (place + 1) 0) 0) (cond (ltb 1 x) false (cond (originPasses w place) (leb y 1) false)) e (ne-eqb (getD w (place + 1) 0) 0 h) in
+      let b = not-first (ltb 1 x) (cond (originPasses w place) (leb y 1) false) a in
+      let c = both (originPasses w place) (leb y 1) (b .1) in
+      (ltb-false 1 x (b .0), leb-true y 1 (c .1), c .0)
 
   given-form : sequenceGiven w place ≡ true → (getD w (place + 1) 0 ≡ 0 → ⊥) → (1 ≤ getD w (place + 11) 0) × (getD w (place + 11) 0 ≤ getD w 13 0)
   unfolding sequenceGiven
@@ -83,7 +110,8 @@ module _ (w : List ℕ) (base i : ℕ) (low : base ≤ 1000000) (few : i < 4096)
         record {
           phase = ltb-false 3 (getD w (base + 32 * i + 1) 0) (d .0);
           stands = located-form w (base + 32 * i) 4 (dpcSize (architectureOf (getD w (base + 32 * i + 4) 0))) (f .0);
-          flags = work-form w (base + 32 * i) (f .1);
+          flags = λ busy. let h = work-form w (base + 32 * i) (f .1) busy in (h .0, h .1);
+          caller = λ busy. origin-form w (base + 32 * i) (work-form w (base + 32 * i) (f .1) busy .2);
           no-object = o .1;
           given = given-form w (base + 32 * i) (ap (sequenceGiven w) (sym entry) ∙ c .0);
           named = named-form w (base + 32 * i) (ap (namedRightly w) (sym entry) ∙ c .1);

@@ -1,6 +1,6 @@
 -- One record of a DPC in words that agree with a state in form passes the check of its numbers.
 use Prim.Native.Nat.{ℕ, _+_, _≤_}
-use mathlib.Core.List.{List}
+use mathlib.Core.List.{List, _∷_}
 use mathlib.Core.Bool.{Bool, cond, true, false}
 use mathlib.Core.Option.{Option, none, some}
 use mathlib.Core.Path.{_≡_, refl, ap, _∙_}
@@ -17,7 +17,7 @@ use Rattle.images.specs.declared.DpcPhase.{DpcPhase}
 use Rattle.images.specs.declared.DpcPhase.the-variants.{Idle, Queued, Running, Returning}
 use Rattle.images.specs.Place.{architectureNumber, architectureOf, backingKind, backingBase, backingSize, backingMapped, dpcSize}
 use Rattle.form_dpc.specs.Place.{located}
-use Rattle.form_dpc.specs.Dpc.{dpcPlaced, workPasses, dpcNumbers, sequenceGiven}
+use Rattle.form_dpc.specs.Dpc.{dpcPlaced, namesNoTimer, originPasses, workPasses, dpcNumbers, sequenceGiven}
 use Rattle.model.specs.Dpcs.{isBusy, workOf}
 use Rattle.model.specs.Valid.{DpcPlaced, sequenceOf}
 use Rattle.history.specs.Row.{Row}
@@ -53,22 +53,36 @@ module _ (w : List ℕ) (place holder : ℕ) (d : Dpc) (r : Row w place (dpcRow 
       (r 4 (architectureNumber (d .architecture)) refl) (r 5 (backingKind (d .backing)) refl) (r 6 (backingBase (d .backing)) refl)
       (r 7 (backingSize (d .backing)) refl) (r 8 (backingMapped (d .backing)) refl) h
 
-  flags-pass : (x : DpcWork) → workOf (d .phase) ≡ some x → cond (ltb 1 (getD w (place + 14) 0)) false (leb (getD w (place + 20) 0) 1) ≡ true
+  -- the timer's words of work that no timer put into the queue
+  origin-passes : (x : DpcWork) → workOf (d .phase) ≡ some x → originPasses w place ≡ true
+  unfolding originPasses namesNoTimer
+  origin-passes x e = go (x .origin) refl
+    where
+      own : (o : DpcOrigin) → x .origin ≡ o → (j : ℕ) → getD (workRow (workOf (d .phase))) j none ≡ getD (some (x .sequence) ∷ some (x .first) ∷ some (x .second) ∷ originRow o) j none
+      own o q j = ap (λ (y : Option DpcWork). getD (workRow y) j none) e ∙ ap (λ (y : DpcOrigin). getD (some (x .sequence) ∷ some (x .first) ∷ some (x .second) ∷ originRow y) j none) q
+
+      go : (o : DpcOrigin) → x .origin ≡ o → originPasses w place ≡ true
+      go origin.Caller q =
+          let z = own origin.Caller q in
+          simp (r 14 0 (z 3), r 15 0 (z 4), r 16 0 (z 5), r 17 0 (z 6), r 18 0 (z 7), r 19 0 (z 8), r 20 0 (z 9))
+      go (origin.Timer address arm initialization deadline observed periodic) q = simp (r 14 1 (own (origin.Timer address arm initialization deadline observed periodic) q 3))
+
+  flags-pass : (x : DpcWork) → workOf (d .phase) ≡ some x → cond (ltb 1 (getD w (place + 14) 0)) false (cond (originPasses w place) (leb (getD w (place + 20) 0) 1) false) ≡ true
   flags-pass x e =
       let first = kind-word (x .origin) in
       let last = periodic-word (x .origin) in
       let word = r 14 (first .0) (ap (λ (o : Option DpcWork). getD (workRow o) 3 none) e ∙ first .1) in
       let word′ = r 20 (last .0) (ap (λ (o : Option DpcWork). getD (workRow o) 9 none) e ∙ last .1) in
-      simp (word, word′, le-ltb 1 (first .0) (first .2), le-leb (last .0) 1 (last .2))
+      simp (origin-passes x e, word, word′, le-ltb 1 (first .0) (first .2), le-leb (last .0) 1 (last .2))
 
   work-passes : workPasses w place ≡ true
   unfolding workPasses
   work-passes =
-      ap (λ (n : ℕ). cond (eqb n 0) true (cond (ltb 1 (getD w (place + 14) 0)) false (leb (getD w (place + 20) 0) 1))) (r 1 (phaseNumber (d .phase)) refl)
+      ap (λ (n : ℕ). cond (eqb n 0) true rest) (r 1 (phaseNumber (d .phase)) refl)
       ∙ go (d .phase) refl
     where
       rest : Bool
-      rest = cond (ltb 1 (getD w (place + 14) 0)) false (leb (getD w (place + 20) 0) 1)
+      rest = cond (ltb 1 (getD w (place + 14) 0)) false (cond (originPasses w place) (leb (getD w (place + 20) 0) 1) false)
 
       go : (p : DpcPhase) → d .phase ≡ p → cond (eqb (phaseNumber (d .phase)) 0) true rest ≡ true
       go Idle e = simp e

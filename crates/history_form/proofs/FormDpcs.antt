@@ -22,7 +22,7 @@ use Rattle.history_tables.proofs.Numbers.{below-nth}
 use Rattle.history_tables.specs.Tables.{below}
 use Rattle.history.specs.Agree.{Agreeing, dpcsFrom}
 use Rattle.history_form.specs.Decoded.{limitsOf, dpcOf, tableOf, addressAt, numbersOf, countersOf, decoded}
-use Rattle.history_form.specs.Silent.{Words, Silent}
+use Rattle.history_form.specs.Words.{Words}
 use Rattle.history_form.specs.Form.{QueueForm}
 use Rattle.history_form.proofs.Each.{length-each, mem-each}
 use Rattle.history_form.proofs.PhaseCounts.{queued-number, phase-word, active-count, returning-count}
@@ -33,9 +33,9 @@ use Rattle.history_form.proofs.DecodedActive.{starts-form}
 use Rattle.history_form.proofs.Parts.{Parts}
 use Rattle.history_form.proofs.Told.{told, agreeing-told}
 
-module _ (w : List ℕ) (words : Words w) (s : Silent w) (p : Parts w) where
+module _ (w : List ℕ) (words : Words w) (p : Parts w) where
   a₀ : Agreeing w (decoded w) (told w) (getD w 25 0)
-  a₀ = agreeing-told w words s p
+  a₀ = agreeing-told w words p
 
   abbrev table : List Dpc
   table = tableOf w

@@ -23,7 +23,7 @@ use Rattle.history.specs.Agree.{Agreeing, objectsFrom, dpcsFrom}
 use Rattle.history.proofs.Headers.{objects-few}
 use Rattle.history.proofs.Lookups.{base-is, object-keys}
 use Rattle.history_form.specs.Decoded.{limitsOf, objectsOf, dpcOf, tableOf, decoded}
-use Rattle.history_form.specs.Silent.{Words, Silent}
+use Rattle.history_form.specs.Words.{Words}
 use Rattle.history_form.specs.Form.{Exists, LinkForm}
 use Rattle.history_form.proofs.DecodedDpcs.{address-is}
 use Rattle.history_form.proofs.DecodedHolders.{timer-served, serves-form}
@@ -32,9 +32,9 @@ use Rattle.history_form.proofs.FormDpcs.{found-at}
 use Rattle.history_form.proofs.Parts.{Parts}
 use Rattle.history_form.proofs.Told.{told, agreeing-told}
 
-module _ (w : List ℕ) (words : Words w) (s : Silent w) (p : Parts w) where
+module _ (w : List ℕ) (words : Words w) (p : Parts w) where
   a₀ : Agreeing w (decoded w) (told w) (getD w 25 0)
-  a₀ = agreeing-told w words s p
+  a₀ = agreeing-told w words p
 
   abbrev objects : List Object
   objects = objectsOf w
@@ -45,7 +45,7 @@ module _ (w : List ℕ) (words : Words w) (s : Silent w) (p : Parts w) where
   served : (k : ℕ) (x : Object) → objectAt objects k ≡ some x → Exists (tableOf w) x
   served k (mutex m) e = tt
   served k (event m) e = tt
-  served k (timer t) e = λ i d. ap present (found-there w words s p (t .dpc) (serves t (timer-found-mem objects k t e) i d .0) .1)
+  served k (timer t) e = λ i d. ap present (found-there w words p (t .dpc) (serves t (timer-found-mem objects k t e) i d .0) .1)
 
   alone : (k : ℕ) (x : Object) → objectAt objects k ≡ some x → (j : ℕ) (y : Object) → objectAt objects j ≡ some y → Alone x y
   alone k (mutex m) e j y f = tt
@@ -72,7 +72,7 @@ module _ (w : List ℕ) (words : Words w) (s : Silent w) (p : Parts w) where
       go : (o : Option Dpc) → dpcAt (tableOf w) k ≡ o → present (dpcAt (tableOf w) k) ≡ false
       go none q = ap present q
       go (some d) q =
-          let h = found-at w words s p k d q in
+          let h = found-at w words p k d q in
           absurd (not-both (sym e ∙ ap (λ (j : ℕ). present (find keyOf objects j)) (h .3) ∙ no-object (h .0) (h .1)))
 
   pub link-form : LinkForm objects (tableOf w)

@@ -14,7 +14,7 @@ use Rattle.model.specs.Threads.{threadOf}
 use Rattle.model.specs.Valid.{Sound}
 use Rattle.model.specs.Fits.{Numbers, ResultFits, StatusFits, ThreadFits}
 use Rattle.history_form.specs.Decoded.{limitsOf, threadBy, objectOf, statusBy, resultBy, decoded}
-use Rattle.history_form.specs.Silent.{Words, Silent}
+use Rattle.history_form.specs.Words.{Words}
 use Rattle.history_form.specs.Form.{Form}
 use Rattle.history_form.proofs.Each.{length-each}
 use Rattle.history_form.proofs.DecodedThreads.{thread-at, thread-past, threads-fit}
@@ -26,7 +26,7 @@ use Rattle.history_form.proofs.FormDpcs.{bear, queue-form}
 use Rattle.history_form.proofs.FormLinks.{link-form}
 use Rattle.history_form.proofs.Parts.{Parts, parts}
 
-module _ (w : List ℕ) (words : Words w) (s : Silent w) (p : Parts w) where
+module _ (w : List ℕ) (words : Words w) (p : Parts w) where
   -- ---- numbers
 
   result-fits : (n : ℕ) → n ≤ 65 → ResultFits (resultBy w n)
@@ -58,7 +58,7 @@ module _ (w : List ℕ) (words : Words w) (s : Silent w) (p : Parts w) where
       go false e = subst ThreadFits (sym (thread-past w (suc i) (leb-false (suc i) (getD w 3 0) e))) (tt, omega arith)
 
   numbers : Numbers (decoded w)
-  numbers = record { threads = thread-fits; timers = timers-fit w p; works = bear w words s p }
+  numbers = record { threads = thread-fits; timers = timers-fit w p; works = bear w words p }
 
   -- ---- threads and objects
 
@@ -68,9 +68,9 @@ module _ (w : List ℕ) (words : Words w) (s : Silent w) (p : Parts w) where
       record {
         some = omega (arith, size, p .header .some-thread);
         few = omega (arith, size, p .header .threads-fit);
-        priorities = λ i one le. let t = threads-fit w s (p .threads) i one le in (t .one, t .small);
+        priorities = λ i one le. let t = threads-fit w (p .threads) i one le in (t .one, t .small);
         standing = standing w p;
-        waits = waits-valid w words s p;
+        waits = waits-valid w words p;
         owners = owners-live w p;
         rising = objects-rise w (p .objects);
         room = omega (arith, length-each (objectOf w) (getD w 4 0) 0, p .header .objects-fit);
@@ -82,13 +82,13 @@ module _ (w : List ℕ) (words : Words w) (s : Silent w) (p : Parts w) where
       record {
         limits = p .header .limits;
         sound = sound;
-        queueing = queue-form w words s p;
-        linked = link-form w words s p;
+        queueing = queue-form w words p;
+        linked = link-form w words p;
         policy = p .header .policy;
         timers-lived = p .header .timers-lived;
         dpcs-lived = p .header .dpcs-lived;
         numbers = numbers;
       }
 
-pub form-of : (w : List ℕ) → Words w → Silent w → inForm w ≡ true → Form (decoded w)
-form-of w words s e = form w words s (parts w e)
+pub form-of : (w : List ℕ) → Words w → inForm w ≡ true → Form (decoded w)
+form-of w words e = form w words (parts w e)

@@ -19,7 +19,7 @@ use Rattle.model.specs.Valid.{WaitValid, WaitingValid}
 use Rattle.model.specs.Refusal.{hasDuplicate}
 use Rattle.model.proofs.ListLaws.{not-both}
 use Rattle.history_form.specs.Decoded.{each, namedAt, deadlineAt, waitAt, statusBy, decoded}
-use Rattle.history_form.specs.Silent.{Words, Silent}
+use Rattle.history_form.specs.Words.{Words}
 use Rattle.history_form.proofs.Each.{length-each, each-nth, mem-each}
 use Rattle.history_form.proofs.ThreadForm.{ThreadForm}
 use Rattle.history_form.proofs.ThreadWaits.{Pairs, duplicate-is, valid-is}
@@ -43,7 +43,7 @@ known-each w place (suc m) i e k p q =
     go (yes r) h ih = subst (λ (j : ℕ). valid w (kindIn w place j) (keyIn w place j) ≡ true) r h
     go (no r) h ih = ih r
 
-module _ (w : List ℕ) (words : Words w) (s : Silent w) (p : Parts w) where
+module _ (w : List ℕ) (words : Words w) (p : Parts w) where
   module _ (i : ℕ) (t : ThreadForm w i) (three : getD w (97 + 160 * i) 0 ≡ 3) where
     abbrev place : ℕ
     place = 128 + 160 * i
@@ -73,7 +73,7 @@ module _ (w : List ℕ) (words : Words w) (s : Silent w) (p : Parts w) where
         let h = mem-each (namedAt w place) size 0 n m in
         let q = pair-words (h .0) in
         let known = known-each w place size 0 (t .known three) (h .0) (h .1) (h .2) in
-        sym (valid-is w (decoded w) (told w) (getD w 25 0) (agreeing-told w words s p) n)
+        sym (valid-is w (decoded w) (told w) (getD w 25 0) (agreeing-told w words p) n)
         ∙ ap (λ (x : Named). valid w (x .kind) (x .key)) (h .3)
         ∙ ap (λ (k : ℕ). valid w k (namedAt w place (h .0) .key)) (sym (q .0)) ∙ ap (valid w (kindIn w place (h .0))) (sym (q .1)) ∙ known
 

@@ -7,13 +7,13 @@ use Rattle.form.specs.Form.{inForm}
 use Rattle.history.specs.Records.{holderOf, activeAddress}
 use Rattle.history.specs.Agree.{Agree}
 use Rattle.history_form.specs.Decoded.{objectsOf, tableOf, decoded}
-use Rattle.history_form.specs.Silent.{Words, Silent}
+use Rattle.history_form.specs.Words.{Words}
 use Rattle.history_form.proofs.Parts.{parts}
 use Rattle.history_form.proofs.Told.{agreeing}
 use Rattle.history_form.proofs.DecodedHolders.{holder-told}
 use Rattle.history_form.proofs.DecodedActive.{active-told}
 
-pub from-form : (w : List ℕ) → Words w → Silent w → inForm w ≡ true → Agree w (decoded w)
-from-form w words s e =
+pub from-form : (w : List ℕ) → Words w → inForm w ≡ true → Agree w (decoded w)
+from-form w words e =
     let p = parts w e in
-    agreeing w words s p (holderOf (objectsOf w)) (activeAddress (tableOf w)) (holder-told w words s p) (active-told w words s p)
+    agreeing w words p (holderOf (objectsOf w)) (activeAddress (tableOf w)) (holder-told w words p) (active-told w words p)

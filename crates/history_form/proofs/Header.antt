@@ -8,7 +8,7 @@ use borrow.Author.Tests.{eq-eqb, ne-eqb, le-leb, le-ltb}
 use lib.ListN.{getD, length}
 use lib.Dec.{eqb, ltb}
 use Rattle.kernel.specs.Open.{badLimits}
-use Rattle.form.specs.Header.{limitsPass, longEnough, countsPass, currentPasses, readyPasses, policyPasses, lifetimesPass, headerNumbers}
+use Rattle.form.specs.Header.{limitsPass, longEnough, countsPass, currentPasses, readyPasses, noArguments, policyPasses, lifetimesPass, headerNumbers}
 use Rattle.model.specs.State.{State, Thread, Policy, unselected, cpu0Dispatch}
 use Rattle.model.specs.Threads.{threadAt, isRunning}
 use Rattle.model.specs.Valid.{PolicyValid}
@@ -84,7 +84,7 @@ module _ (w : List ℕ) (s : State) (a : Agree w s) (v : Form s) where
   ready-passes = and-not (ltb 4294967295 (getD w 9 0)) (eqb (bitAt (getD w 9 0) 0) 0) (le-ltb 4294967295 (getD w 9 0) (omega (arith, a .queues .small))) (eq-eqb (bitAt (getD w 9 0) 0) 0 (a .queues .no-zero))
 
   pub policy-passes : policyPasses w ≡ true
-  unfolding policyPasses
+  unfolding policyPasses noArguments
   policy-passes =
       simp (
         a .numbers 10 (policyNumber (s .policy)) refl,
@@ -94,7 +94,7 @@ module _ (w : List ℕ) (s : State) (a : Agree w s) (v : Form s) where
       )
     where
       go : (p : Policy) → PolicyValid p
-          → cond (eqb (policyNumber p) 0) true
+          → cond (eqb (policyNumber p) 0) (cond (eqb (firstArgument p) 0) (eqb (secondArgument p) 0) false)
           (cond (eqb (policyNumber p) 1) (cond (eqb (firstArgument p) 0) false (cond (eqb (secondArgument p) 0) false (not (eqb (firstArgument p) (secondArgument p))))) false) ≡ true
       go unselected q = refl
       go (cpu0Dispatch f g) q = simp (ne-eqb f 0 (q .0), ne-eqb g 0 (q .1), ne-eqb f g (q .2))

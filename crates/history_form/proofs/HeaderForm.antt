@@ -12,7 +12,7 @@ use Rattle.kernel.specs.Open.{badLimits, wordsNeeded}
 use Rattle.threads.specs.Thread.{threadCount}
 use Rattle.objects.specs.Objects.{objectsBase, dpcsBase, objectCount}
 use Rattle.dpcs.specs.Record.{dpcCount}
-use Rattle.form.specs.Header.{limitsPass, longEnough, countsPass, currentPasses, readyPasses, policyPasses, lifetimesPass, headerNumbers}
+use Rattle.form.specs.Header.{limitsPass, longEnough, countsPass, currentPasses, readyPasses, noArguments, policyPasses, lifetimesPass, headerNumbers}
 use Rattle.model.specs.State.{Policy, unselected, cpu0Dispatch}
 use Rattle.model.specs.Valid.{LimitsValid, PolicyValid}
 use Rattle.model.proofs.ListLaws.{neither}
@@ -22,7 +22,6 @@ use Rattle.history.specs.Records.{policyNumber, firstArgument, secondArgument}
 use Rattle.history.specs.Agree.{Enough, headerOf, objectsFrom, dpcsFrom}
 use Rattle.history.proofs.Places.{objects-place, entry-place}
 use Rattle.history_form.specs.Decoded.{limitsOf, threadBy, objectOf, dpcOf, policyBy, decoded}
-use Rattle.history_form.specs.Silent.{Silent}
 use Rattle.history_form.proofs.Clauses.{both, not-first}
 use Rattle.history_form.proofs.Each.{length-each, row-from, ends, says, skips}
 
@@ -38,6 +37,7 @@ pub record Counted (w : List ℕ) : Type 0 where
   pub no-zero : bitAt (getD w 9 0) 0 ≡ 0
   pub policy-number : policyNumber (policyBy w (getD w 10 0)) ≡ getD w 10 0
   pub policy : PolicyValid (policyBy w (getD w 10 0))
+  pub no-arguments : getD w 10 0 ≡ 0 → (getD w 11 0 ≡ 0) × (getD w 12 0 ≡ 0)
   pub lived : getD w 13 0 ≤ 65536
   pub timers-lived : getD w 19 0 ≤ 65536
   pub dpcs-lived : getD w 20 0 ≤ 65536
@@ -78,21 +78,30 @@ module _ (w : List ℕ) where
       let a = not-first (ltb 4294967295 (getD w 9 0)) (eqb (bitAt (getD w 9 0) 0) 0) e in
       (omega (arith, ltb-false 4294967295 (getD w 9 0) (a .0)), eqb-true (bitAt (getD w 9 0) 0) 0 (a .1))
 
-  policy-form : policyPasses w ≡ true → (policyNumber (policyBy w (getD w 10 0)) ≡ getD w 10 0) × PolicyValid (policyBy w (getD w 10 0))
+  no-arguments-form : noArguments w ≡ true → (getD w 11 0 ≡ 0) × (getD w 12 0 ≡ 0)
+  unfolding noArguments
+  no-arguments-form e =
+      let a = both (eqb (getD w 11 0) 0) (eqb (getD w 12 0) 0) e in
+      (eqb-true (getD w 11 0) 0 (a .0), eqb-true (getD w 12 0) 0 (a .1))
+
+  policy-form : policyPasses w ≡ true
+      → (policyNumber (policyBy w (getD w 10 0)) ≡ getD w 10 0) × (PolicyValid (policyBy w (getD w 10 0))) × (getD w 10 0 ≡ 0 → (getD w 11 0 ≡ 0) × (getD w 12 0 ≡ 0))
   unfolding policyPasses
   policy-form e = go (eqb (getD w 10 0) 0) refl e
     where
       rest : Bool
       rest = cond (eqb (getD w 10 0) 1) (cond (eqb (getD w 11 0) 0) false (cond (eqb (getD w 12 0) 0) false (not (eqb (getD w 11 0) (getD w 12 0))))) false
 
-      go : (b : Bool) → eqb (getD w 10 0) 0 ≡ b → cond b true rest ≡ true → (policyNumber (cond b unselected (cpu0Dispatch (getD w 11 0) (getD w 12 0))) ≡ getD w 10 0) × PolicyValid (cond b unselected (cpu0Dispatch (getD w 11 0) (getD w 12 0)))
-      go true q h = (sym (eqb-true (getD w 10 0) 0 q), tt)
+      go : (b : Bool) → eqb (getD w 10 0) 0 ≡ b → cond b (noArguments w) rest ≡ true
+          → (policyNumber (cond b unselected (cpu0Dispatch (getD w 11 0) (getD w 12 0))) ≡ getD w 10 0) × (PolicyValid (cond b unselected (cpu0Dispatch (getD w 11 0) (getD w 12 0)))) × (getD w 10 0 ≡ 0 → (getD w 11 0 ≡ 0) × (getD w 12 0 ≡ 0))
+      go true q h = (sym (eqb-true (getD w 10 0) 0 q), tt, (λ z. no-arguments-form h))
       go false q h =
           let a = both (eqb (getD w 10 0) 1) (cond (eqb (getD w 11 0) 0) false (cond (eqb (getD w 12 0) 0) false (not (eqb (getD w 11 0) (getD w 12 0))))) h in
           let b = not-first (eqb (getD w 11 0) 0) (cond (eqb (getD w 12 0) 0) false (not (eqb (getD w 11 0) (getD w 12 0)))) (a .1) in
           let c = not-first (eqb (getD w 12 0) 0) (not (eqb (getD w 11 0) (getD w 12 0))) (b .1) in (
             sym (eqb-true (getD w 10 0) 1 (a .0)),
             (eqb-false (getD w 11 0) 0 (b .0), eqb-false (getD w 12 0) 0 (c .0), eqb-false (getD w 11 0) (getD w 12 0) (not-true (eqb (getD w 11 0) (getD w 12 0)) (c .1))),
+            (λ z. absurd (eqb-false (getD w 10 0) 0 q z)),
           )
 
   lifetimes-form : lifetimesPass w ≡ true → (getD w 13 0 ≤ 65536) × (getD w 19 0 ≤ 65536) × (getD w 20 0 ≤ 65536)
@@ -123,6 +132,7 @@ module _ (w : List ℕ) where
         no-zero = ready-form (c .0) .1;
         policy-number = policy-form (d .0) .0;
         policy = policy-form (d .0) .1;
+        no-arguments = policy-form (d .0) .2;
         lived = lives .0;
         timers-lived = lives .1;
         dpcs-lived = lives .2;
@@ -158,8 +168,8 @@ module _ (w : List ℕ) (c : Counted w) where
 
   -- ---- the header's numbers
 
-  pub header-row : Silent w → Row w 0 (headerOf (decoded w) (getD w 25 0))
-  header-row s = row-from w 0 (headerOf (decoded w) (getD w 25 0))
+  pub header-row : Row w 0 (headerOf (decoded w) (getD w 25 0))
+  header-row = row-from w 0 (headerOf (decoded w) (getD w 25 0))
       (says refl (says refl (says refl
       (says (sym (length-each (threadBy w) (getD w 3 0) 1))
       (says (sym (length-each (objectOf w) (getD w 4 0) 0))
@@ -182,7 +192,7 @@ module _ (w : List ℕ) (c : Counted w) where
         where
           go : (b : Bool) → eqb (getD w 10 0) 0 ≡ b → (getD w 11 0 ≡ firstArgument (policyBy w (getD w 10 0))) × (getD w 12 0 ≡ secondArgument (policyBy w (getD w 10 0)))
           go true q =
-              let h = s .arguments (eqb-true (getD w 10 0) 0 q) in (
+              let h = c .no-arguments (eqb-true (getD w 10 0) 0 q) in (
                 h .0 ∙ ap (λ (b : Bool). firstArgument (cond b unselected (cpu0Dispatch (getD w 11 0) (getD w 12 0)))) (sym q),
                 h .1 ∙ ap (λ (b : Bool). secondArgument (cond b unselected (cpu0Dispatch (getD w 11 0) (getD w 12 0)))) (sym q),
               )

@@ -40,6 +40,4 @@ pub mod FormObjects
 pub mod FormDpcs
 pub mod FormLinks
 pub mod FormOf
-pub mod AgreeSilent
 pub mod Exactly
-pub mod Unsaid

@@ -12,7 +12,7 @@ use Rattle.arch.specs.declared.Architecture.the-variants.{X64, X86}
 use Rattle.images.specs.declared.TimerBacking.{TimerBacking}
 use Rattle.images.specs.declared.TimerBacking.the-variants.{Image, NonpagedPool}
 use Rattle.images.specs.Place.{architectureNumber, backingKind, backingBase, backingSize, backingMapped, locationRefusal}
-use Rattle.form_dpc.specs.Place.{keyRises, located}
+use Rattle.form_dpc.specs.Place.{keyRises, mappedPasses, located}
 use Rattle.model.specs.Lists.{nth}
 use Rattle.model.specs.Table.{Rising}
 use Rattle.model.proofs.TableLaws.{none-some, some-same}
@@ -52,6 +52,11 @@ backing-few : (b : TimerBacking) → backingKind b ≤ 1
 backing-few (Image base size) = omega arith
 backing-few (NonpagedPool base requested mapped) = omega arith
 
+mapped-none : (b : TimerBacking) → mappedPasses (backingKind b) (backingMapped b) ≡ true
+unfolding mappedPasses
+mapped-none (Image base size) = refl
+mapped-none (NonpagedPool base requested mapped) = refl
+
 pub located-is : (w : List ℕ) (place from address size : ℕ) (a : Architecture) (b : TimerBacking) → getD w place 0 ≡ address
     → getD w (place + from) 0 ≡ architectureNumber a → getD w (place + (from + 1)) 0 ≡ backingKind b → getD w (place + (from + 2)) 0 ≡ backingBase b
     → getD w (place + (from + 3)) 0 ≡ backingSize b → getD w (place + (from + 4)) 0 ≡ backingMapped b → locationRefusal address size a b ≡ 0
@@ -67,6 +72,7 @@ located-is w place from address size a b e e₀ e₁ e₂ e₃ e₄ h =
       e₄,
       le-ltb 1 (architectureNumber a) (architecture-few a),
       le-ltb 1 (backingKind b) (backing-few b),
+      mapped-none b,
       architecture-read a,
       backing-read b,
       h,

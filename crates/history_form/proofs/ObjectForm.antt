@@ -14,7 +14,7 @@ use Rattle.objects.specs.Objects.{objectsBase, objectCount}
 use Rattle.form_dpc.specs.Place.{keyRises}
 use Rattle.form_dpc.specs.Timer.{timerNumbers, servesIt, dpcServes}
 use Rattle.form.specs.Thread.{live}
-use Rattle.form.specs.Object.{eventPasses, objectNumbers, ownerLives, objectPasses, objectsIn, objectsPass}
+use Rattle.form.specs.Object.{mutexPasses, eventPasses, objectNumbers, ownerLives, objectPasses, objectsIn, objectsPass}
 use Rattle.history.specs.Agree.{objectsFrom}
 use Rattle.history.proofs.Places.{entry-place}
 use Rattle.history_tables.proofs.Search.{key-is}
@@ -26,12 +26,20 @@ use Rattle.history_form.proofs.TimerForm.{rises-form, TimerForm, timer-
 pub record ObjectForm (w : List ℕ) (place : ℕ) : Type 0 where
   pub key : getD w place 0 ≡ 0 → ⊥
   pub kind : getD w (place + 1) 0 ≤ 2
+  pub mutex : getD w (place + 1) 0 ≡ 0 → (getD w (place + 2) 0 ≡ 0) × (getD w (place + 3) 0 ≡ 0)
   pub event : getD w (place + 1) 0 ≡ 1 → (getD w (place + 2) 0 ≤ 1) × (getD w (place + 3) 0 ≤ 1)
   pub timer : getD w (place + 1) 0 ≡ 2 → TimerForm w place
   pub owner : getD w (place + 1) 0 ≡ 0 → cond (eqb (getD w (place + 4) 0) 0) true (live w (getD w (place + 4) 0)) ≡ true
+  pub no-owner : (getD w (place + 1) 0 ≡ 0 → ⊥) → getD w (place + 4) 0 ≡ 0
   pub serves : getD w (place + 1) 0 ≡ 2 → (getD w (place + 5) 0 ≡ 0 → ⊥) → (getD w (place + 8) 0 ≡ 0 → ⊥) → servesIt w (getD w (place + 8) 0) (getD w place 0) ≡ true
 
 module _ (w : List ℕ) (place : ℕ) where
+  mutex-form : mutexPasses w place ≡ true → (getD w (place + 2) 0 ≡ 0) × (getD w (place + 3) 0 ≡ 0)
+  unfolding mutexPasses
+  mutex-form e =
+      let a = both (eqb (getD w (place + 2) 0) 0) (eqb (getD w (place + 3) 0) 0) e in
+      (eqb-true (getD w (place + 2) 0) 0 (a .0), eqb-true (getD w (place + 3) 0) 0 (a .1))
+
   event-form : eventPasses w place ≡ true → (getD w (place + 2) 0 ≤ 1) × (getD w (place + 3) 0 ≤ 1)
   unfolding eventPasses
   event-form e =
@@ -39,15 +47,17 @@ module _ (w : List ℕ) (place : ℕ) where
       (ltb-false 1 (getD w (place + 2) 0) (a .0), leb-true (getD w (place + 3) 0) 1 (a .1))
 
   -- the clauses by the kind
-  by-kind : (kind : ℕ) → cond (eqb kind 0) true (cond (eqb kind 1) (eventPasses w place) (cond (eqb kind 2) (timerNumbers w place) false)) ≡ true
-      → (kind ≤ 2) × ((kind ≡ 1 → eventPasses w place ≡ true) × (kind ≡ 2 → timerNumbers w place ≡ true))
-  by-kind zero e = (omega arith, ((λ q. absurd (omega arith)), (λ q. absurd (omega arith))))
-  by-kind (suc zero) e = (omega arith, ((λ q. e), (λ q. absurd (omega arith))))
-  by-kind (suc (suc zero)) e = (omega arith, ((λ q. absurd (omega arith)), (λ q. e)))
+  by-kind : (kind : ℕ) → cond (eqb kind 0) (mutexPasses w place) (cond (eqb kind 1) (eventPasses w place) (cond (eqb kind 2) (timerNumbers w place) false)) ≡ true
+      → (kind ≤ 2) × (kind ≡ 0 → mutexPasses w place ≡ true) × (kind ≡ 1 → eventPasses w place ≡ true) × (kind ≡ 2 → timerNumbers w place ≡ true)
+  by-kind zero e = (omega arith, (λ q. e), (λ q. absurd (omega arith)), (λ q. absurd (omega arith)))
+  by-kind (suc zero) e = (omega arith, (λ q. absurd (omega arith)), (λ q. e), (λ q. absurd (omega arith)))
+  by-kind (suc (suc zero)) e = (omega arith, (λ q. absurd (omega arith)), (λ q. absurd (omega arith)), (λ q. e))
   by-kind (suc (suc (suc n))) e =
       let k = suc (suc (suc n)) in
-      let a = if-not (eqb k 0) (cond (eqb k 1) (eventPasses w place) (cond (eqb k 2) (timerNumbers w place) false)) e (ne-eqb k 0 (λ q. omega arith)) in
-      let b : cond (eqb k 2) (timerNumbers w place) false ≡ true = ap (λ (t : Bool). cond t (eventPasses w place) (cond (eqb k 2) (timerNumbers w place) false)) (sym (ne-eqb k 1 (λ q. omega arith))) ∙ a in
+      let timers = cond (eqb k 2) (timerNumbers w place) false in
+      let events = cond (eqb k 1) (eventPasses w place) timers in
+      let a : events ≡ true = ap (λ (t : Bool). cond t (mutexPasses w place) events) (sym (ne-eqb k 0 (λ q. omega arith))) ∙ e in
+      let b : timers ≡ true = ap (λ (t : Bool). cond t (eventPasses w place) timers) (sym (ne-eqb k 1 (λ q. omega arith))) ∙ a in
       let c = both (eqb k 2) (timerNumbers w place) b in
       absurd (omega (arith, eqb-true k 2 (c .0)))
 
@@ -64,19 +74,23 @@ module _ (w : List ℕ) (base i : ℕ) (low : base ≤ 1000000) (few : i < 4096)
   entry = entry-place base i low (omega arith)
 
   numbers-form : objectNumbers w base i ≡ true
-      → (getD w (base + 32 * i) 0 ≡ 0 → ⊥) × (cond (eqb (getD w (base + 32 * i + 1) 0) 0) true (cond (eqb (getD w (base + 32 * i + 1) 0) 1) (eventPasses w (base + 32 * i)) (cond (eqb (getD w (base + 32 * i + 1) 0) 2) (timerNumbers w (base + 32 * i)) false)) ≡ true)
+      → (getD w (base + 32 * i) 0 ≡ 0 → ⊥) × (cond (eqb (getD w (base + 32 * i + 1) 0) 0) (mutexPasses w (base + 32 * i)) (cond (eqb (getD w (base + 32 * i + 1) 0) 1) (eventPasses w (base + 32 * i)) (cond (eqb (getD w (base + 32 * i + 1) 0) 2) (timerNumbers w (base + 32 * i)) false)) ≡ true)
   unfolding objectNumbers
   numbers-form e =
-      let rest : ℕ → Bool = λ p. cond (eqb (getD w (p + 1) 0) 0) true (cond (eqb (getD w (p + 1) 0) 1) (eventPasses w p) (cond (eqb (getD w (p + 1) 0) 2) (timerNumbers w p) false)) in
+      let rest : ℕ → Bool = λ p. cond (eqb (getD w (p + 1) 0) 0) (mutexPasses w p) (cond (eqb (getD w (p + 1) 0) 1) (eventPasses w p) (cond (eqb (getD w (p + 1) 0) 2) (timerNumbers w p) false)) in
       let a = not-first (eqb (keyAt w base i) 0) (rest (entryAt base i)) e in
       ((λ q. eqb-false (keyAt w base i) 0 (a .0) (key-is w base i low (omega arith) ∙ q)), ap rest (sym entry) ∙ a .1)
 
-  owner-form : ownerLives w base i ≡ true → getD w (base + 32 * i + 1) 0 ≡ 0 → cond (eqb (getD w (base + 32 * i + 4) 0) 0) true (live w (getD w (base + 32 * i + 4) 0)) ≡ true
+  owner-form : ownerLives w base i ≡ true
+      → (getD w (base + 32 * i + 1) 0 ≡ 0 → cond (eqb (getD w (base + 32 * i + 4) 0) 0) true (live w (getD w (base + 32 * i + 4) 0)) ≡ true) × ((getD w (base + 32 * i + 1) 0 ≡ 0 → ⊥) → getD w (base + 32 * i + 4) 0 ≡ 0)
   unfolding ownerLives
-  owner-form e k =
-      let rest : ℕ → Bool = λ p. cond (eqb (getD w (p + 4) 0) 0) true (live w (getD w (p + 4) 0)) in
-      let a = ap (λ (p : ℕ). cond (eqb (getD w (p + 1) 0) 0) (rest p) true) (sym entry) ∙ e in
-      if-so (eqb (getD w (base + 32 * i + 1) 0) 0) (rest (base + 32 * i)) a (eq-eqb (getD w (base + 32 * i + 1) 0) 0 k)
+  owner-form e =
+      let owner = getD w (base + 32 * i + 4) 0 in
+      let kind = getD w (base + 32 * i + 1) 0 in
+      let a : cond (eqb kind 0) (cond (eqb owner 0) true (live w owner)) (eqb owner 0) ≡ true = ap (λ (p : ℕ). cond (eqb (getD w (p + 1) 0) 0) (cond (eqb (getD w (p + 4) 0) 0) true (live w (getD w (p + 4) 0))) (eqb (getD w (p + 4) 0) 0)) (sym entry) ∙ e in (
+        (λ k. ap (λ (b : Bool). cond b (cond (eqb owner 0) true (live w owner)) (eqb owner 0)) (sym (eq-eqb kind 0 k)) ∙ a),
+        (λ k. eqb-true owner 0 (ap (λ (b : Bool). cond b (cond (eqb owner 0) true (live w owner)) (eqb owner 0)) (sym (ne-eqb kind 0 k)) ∙ a)),
+      )
 
   object-form : objectPasses w base i ≡ true → (ObjectForm w (base + 32 * i)) × (keyRises w base i ≡ true)
   unfolding objectPasses
@@ -89,9 +103,11 @@ module _ (w : List ℕ) (base i : ℕ) (low : base ≤ 1000000) (few : i < 4096)
         record {
           key = n .0;
           kind = k .0;
-          event = λ q. event-form w (base + 32 * i) (k .1 .0 q);
-          timer = λ q. timer-form w (base + 32 * i) (k .1 .1 q);
-          owner = owner-form (c .0);
+          mutex = λ q. mutex-form w (base + 32 * i) (k .1 q);
+          event = λ q. event-form w (base + 32 * i) (k .2 q);
+          timer = λ q. timer-form w (base + 32 * i) (k .3 q);
+          owner = owner-form (c .0) .0;
+          no-owner = owner-form (c .0) .1;
           serves = serves-form w (base + 32 * i) (ap (dpcServes w) (sym entry) ∙ c .1);
         },
         b .0,

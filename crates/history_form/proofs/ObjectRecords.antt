@@ -13,9 +13,9 @@ use Rattle.tables.specs.Table.{keyAt}
 use Rattle.objects.specs.Objects.{objectsBase}
 use Rattle.form_dpc.specs.Timer.{timerNumbers, dpcServes}
 use Rattle.form.specs.Thread.{hasState, live}
-use Rattle.form.specs.Object.{eventPasses, objectNumbers, ownerLives, objectPasses, objectsIn, objectsPass}
+use Rattle.form.specs.Object.{mutexPasses, eventPasses, objectNumbers, ownerLives, objectPasses, objectsIn, objectsPass}
 use Rattle.model.specs.Lists.{nth, Mem}
-use Rattle.model.specs.State.{State, Status, running, ready, waiting, exited, Event, Object, mutex, event, timer}
+use Rattle.model.specs.State.{State, Status, running, ready, waiting, exited, Mutex, Event, Object, mutex, event, timer}
 use Rattle.model.specs.Threads.{isThread, isLive, hasExited, statusOf}
 use Rattle.model.specs.Waits.{keyOf, objectAt}
 use Rattle.model.specs.Valid.{Placed, OwnerLive}
@@ -98,6 +98,10 @@ module _ (w : List ℕ) (s : State) (a : Agree w s) (v : Form s) where
     there : objectAt objects (keyOf x) ≡ some x
     there = find-nth keyOf objects (v .sound .rising) i x e
 
+    no-flags : (x : Mutex) → Row w place (objectRow (mutex x)) → mutexPasses w place ≡ true
+    unfolding mutexPasses
+    no-flags x r = simp (r 2 0 refl, r 3 0 refl)
+
     flags : (x : Event) → Row w place (objectRow (event x)) → eventPasses w place ≡ true
     unfolding eventPasses
     flags x r =
@@ -112,18 +116,18 @@ module _ (w : List ℕ) (s : State) (a : Agree w s) (v : Form s) where
         ∙ go x (a .objects i x e) (v .sound .places (keyOf x) x there) (v .numbers .timers (keyOf x) x there)
       where
         by-kind : ℕ → Bool
-        by-kind p = cond (eqb (getD w (p + 1) 0) 0) true (cond (eqb (getD w (p + 1) 0) 1) (eventPasses w p) (cond (eqb (getD w (p + 1) 0) 2) (timerNumbers w p) false))
+        by-kind p = cond (eqb (getD w (p + 1) 0) 0) (mutexPasses w p) (cond (eqb (getD w (p + 1) 0) 1) (eventPasses w p) (cond (eqb (getD w (p + 1) 0) 2) (timerNumbers w p) false))
 
         go : (x : Object) → Row w place (objectRow x) → Placed x → TimerFits (s .timerInitializations) x
-            → cond (eqb (getD w (place + 1) 0) 0) true (cond (eqb (getD w (place + 1) 0) 1) (eventPasses w place) (cond (eqb (getD w (place + 1) 0) 2) (timerNumbers w place) false)) ≡ true
-        go (mutex m) r p f = simp (r 1 0 refl)
+            → cond (eqb (getD w (place + 1) 0) 0) (mutexPasses w place) (cond (eqb (getD w (place + 1) 0) 1) (eventPasses w place) (cond (eqb (getD w (place + 1) 0) 2) (timerNumbers w place) false)) ≡ true
+        go (mutex m) r p f = simp (r 1 0 refl, no-flags m r)
         go (event m) r p f = simp (r 1 1 refl, flags m r)
         go (timer t) r p f = simp (r 1 2 refl, timer-numbers w place t r (s .timerInitializations) (a .numbers 19 (s .timerInitializations) refl) f p)
 
     owner : ownerLives w (objectsFrom (s .limits)) i ≡ true
     unfolding ownerLives
     owner =
-        ap (λ (p : ℕ). cond (eqb (getD w (p + 1) 0) 0) (cond (eqb (getD w (p + 4) 0) 0) true (live w (getD w (p + 4) 0))) true) entry
+        ap (λ (p : ℕ). cond (eqb (getD w (p + 1) 0) 0) (cond (eqb (getD w (p + 4) 0) 0) true (live w (getD w (p + 4) 0))) (eqb (getD w (p + 4) 0) 0)) entry
         ∙ go x (a .objects i x e) (v .sound .owners (keyOf x) x there)
       where
         last : (o : ℕ) (b : Bool) → eqb o 0 ≡ b → cond b true (isLive (s .dispatcher) o) ≡ true → cond b true (live w o) ≡ true
@@ -131,10 +135,10 @@ module _ (w : List ℕ) (s : State) (a : Agree w s) (v : Form s) where
         last o false q h = live-is o h
 
         go : (x : Object) → Row w place (objectRow x) → OwnerLive (s .dispatcher) x
-            → cond (eqb (getD w (place + 1) 0) 0) (cond (eqb (getD w (place + 4) 0) 0) true (live w (getD w (place + 4) 0))) true ≡ true
+            → cond (eqb (getD w (place + 1) 0) 0) (cond (eqb (getD w (place + 4) 0) 0) true (live w (getD w (place + 4) 0))) (eqb (getD w (place + 4) 0) 0) ≡ true
         go (mutex m) r h = simp (r 1 0 refl, r 4 (m .owner) refl, last (m .owner) (eqb (m .owner) 0) refl h)
-        go (event m) r h = simp (r 1 1 refl)
-        go (timer t) r h = simp (r 1 2 refl)
+        go (event m) r h = simp (r 1 1 refl, r 4 0 refl)
+        go (timer t) r h = simp (r 1 2 refl, r 4 0 refl)
 
     serves : dpcServes w (entryAt (objectsFrom (s .limits)) i) ≡ true
     unfolding dpcServes

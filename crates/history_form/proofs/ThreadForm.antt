@@ -5,18 +5,18 @@ use mathlib.Core.Bool.{Bool, cond, true, false, not}
 use mathlib.Core.Path.{_≡_, sym, ap, _∙_, subst}
 use native.Mathlib.Omega.{arith}
 use native.Mathlib.Decide.{ℕ-discrete}
-use borrow.Author.Tests.{eq-eqb, eqb-true, leb-true, ltb-false, not-true, le-leb}
+use borrow.Author.Tests.{eq-eqb, ne-eqb, eqb-true, leb-true, ltb-false, not-true, le-leb}
 use lib.ListN.{getD}
 use lib.Dec.{eqb, leb, ltb}
 use Rattle.words.specs.Layout as at
 use Rattle.threads.specs.Thread.{threadOf, threadCount, countOf, placesAt}
 use Rattle.waits.specs.Lists.{kindIn, badKindIn, unknownIn, duplicateIn}
 use Rattle.kernel.specs.Open.{badPriority}
-use Rattle.form.specs.Thread.{hasState, badState, recordPasses, waitPasses, delayPasses, threadNumbers, runsIfCurrent, waitsForKnown, waitsForEachOnce, threadPasses, threadsIn, threadsPass}
+use Rattle.form.specs.Thread.{hasState, badState, recordPasses, exitPasses, waitPasses, delayPasses, threadNumbers, runsIfCurrent, waitsForKnown, waitsForEachOnce, threadPasses, threadsIn, threadsPass}
 use Rattle.model.proofs.ListLaws.{neither}
 use Rattle.history.specs.Agree.{WaitKept}
 use Rattle.history.proofs.Places.{thread-place}
-use Rattle.history_form.proofs.Clauses.{both, not-first, if-so}
+use Rattle.history_form.proofs.Clauses.{both, not-first, if-so, if-not}
 use Rattle.history_form.proofs.HeaderForm.{Counted, thread-count}
 
 pub record ThreadForm (w : List ℕ) (i : ℕ) : Type 0 where
@@ -26,6 +26,7 @@ pub record ThreadForm (w : List ℕ) (i : ℕ) : Type 0 where
   pub small-state : getD w (97 + 160 * i) 0 ≤ 4
   pub result : getD w (100 + 160 * i) 0 ≤ 65
   pub status : getD w (101 + 160 * i) 0 ≤ 4294967295
+  pub no-exit : (getD w (97 + 160 * i) 0 ≡ 4 → ⊥) → getD w (101 + 160 * i) 0 ≡ 0
   pub kept : WaitKept w i
   pub delay : getD w (97 + 160 * i) 0 ≡ 3 → getD w (106 + 160 * i) 0 ≡ 0 → getD w (103 + 160 * i) 0 ≡ 1
   pub runs : eqb (getD w 6 0) i ≡ eqb (getD w (97 + 160 * i) 0) 1
@@ -136,14 +137,21 @@ module _ (w : List ℕ) (i : ℕ) (few : i ≤ 256) where
       ∙ not-true (duplicateIn (countOf w i) w (placesAt i) 0)
       (if-so (hasState w i 3) (not (duplicateIn (countOf w i) w (placesAt i) 0)) e (state-word 3 ∙ eq-eqb (getD w (97 + 160 * i) 0) 3 q))
 
+  exit-form : exitPasses w i ≡ true → (getD w (97 + 160 * i) 0 ≡ 4 → ⊥) → getD w (101 + 160 * i) 0 ≡ 0
+  unfolding exitPasses
+  exit-form e q =
+      let a = if-not (hasState w i 4) (eqb (getD w (at.threadAt i + 5) 0) 0) e (state-word 4 ∙ ne-eqb (getD w (97 + 160 * i) 0) 4 q) in
+      sym (word 5 (101 + 160 * i) (omega arith)) ∙ eqb-true (getD w (at.threadAt i + 5) 0) 0 a
+
   thread-form : threadPasses w i ≡ true → ThreadForm w i
   unfolding threadPasses threadNumbers
   thread-form e =
       let a = both (threadNumbers w i) (cond (runsIfCurrent w i) (cond (waitsForKnown w i) (waitsForEachOnce w i) false) false) e in
       let b = both (runsIfCurrent w i) (cond (waitsForKnown w i) (waitsForEachOnce w i) false) (a .1) in
       let c = both (waitsForKnown w i) (waitsForEachOnce w i) (b .1) in
-      let d = both (recordPasses w i) (cond (waitPasses w i) (delayPasses w i) false) (a .0) in
-      let f = both (waitPasses w i) (delayPasses w i) (d .1) in
+      let d = both (recordPasses w i) (cond (exitPasses w i) (cond (waitPasses w i) (delayPasses w i) false) false) (a .0) in
+      let x = both (exitPasses w i) (cond (waitPasses w i) (delayPasses w i) false) (d .1) in
+      let f = both (waitPasses w i) (delayPasses w i) (x .1) in
       let r = record-form (d .0) in
       let k = wait-form (f .0) in
       record {
@@ -153,6 +161,7 @@ module _ (w : List ℕ) (i : ℕ) (few : i ≤ 256) where
         small-state = r .small-state;
         result = r .result;
         status = r .status;
+        no-exit = exit-form (x .0);
         kept = k;
         delay = delay-form (f .1) (k .count);
         runs = runs-form (b .0);

@@ -12,7 +12,7 @@ use Rattle.words.specs.Layout as at
 use Rattle.threads.specs.Thread as words
 use Rattle.waits.specs.Lists.{kindIn, badKindIn}
 use Rattle.kernel.specs.Open.{badPriority}
-use Rattle.form.specs.Thread.{hasState, badState, recordPasses, waitPasses, delayPasses, threadNumbers, runsIfCurrent}
+use Rattle.form.specs.Thread.{hasState, badState, recordPasses, exitPasses, waitPasses, delayPasses, threadNumbers, runsIfCurrent}
 use Rattle.model.specs.Lists.{present}
 use Rattle.model.specs.State.{State, Status, running, ready, waiting, exited, WaitResult, satisfied, timeout}
 use Rattle.model.specs.Threads.{threadOf, statusOf, isRunning}
@@ -89,6 +89,23 @@ module _ (w : List ℕ) (s : State) (a : Agree w s) (v : Form s) (id : ℕ) (one
         le-leb (exitStatus (t .status)) 4294967295 (exit-passes (t .status) (v .numbers .threads id .1)),
       )
 
+  -- no exit, no exit status
+  exit-none : exitPasses w id ≡ true
+  unfolding exitPasses
+  exit-none =
+      ap (λ (t : Bool). cond t true (eqb (getD w (at.threadAt id + 5) 0) 0)) (has-state 4)
+      ∙ ap (λ (n : ℕ). cond (eqb (statusNumber x) 4) true (eqb n 0)) (thread-word-is w s (holderOf (s .dispatcher .objects)) (activeAddress (s .dpcs .table)) a id one le 5 (exitStatus x) refl)
+      ∙ go x
+    where
+      x : Status
+      x = statusOf (s .dispatcher) id
+
+      go : (x : Status) → cond (eqb (statusNumber x) 4) true (eqb (exitStatus x) 0) ≡ true
+      go running = refl
+      go ready = refl
+      go (waiting y) = refl
+      go (exited n) = refl
+
   kept : WaitKept w id
   kept = a .waits .kept id one le
 
@@ -141,7 +158,7 @@ module _ (w : List ℕ) (s : State) (a : Agree w s) (v : Form s) (id : ℕ) (one
 
   pub thread-numbers : threadNumbers w id ≡ true
   unfolding threadNumbers
-  thread-numbers = simp (record-passes, wait-passes, delay-passes)
+  thread-numbers = simp (record-passes, exit-none, wait-passes, delay-passes)
 
   pub runs-if-current : runsIfCurrent w id ≡ true
   unfolding runsIfCurrent

@@ -4,15 +4,15 @@ use mathlib.Core.List.{List}
 use mathlib.Core.Bool.{cond, true, false}
 use mathlib.Core.Path.{_≡_, ap}
 use native.Mathlib.Omega.{arith}
-use borrow.Author.Tests.{ne-eqb, eqb-true, eqb-false, leb-true, ltb-false, ltb-true}
+use borrow.Author.Tests.{eq-eqb, ne-eqb, eqb-true, eqb-false, leb-true, ltb-false, ltb-true}
 use lib.ListN.{getD}
 use lib.Dec.{eqb, leb, ltb}
 use Rattle.tables.specs.Table.{keyAt}
 use Rattle.images.specs.Place.{architectureOf, backingOf, locationRefusal, timerSize}
-use Rattle.form_dpc.specs.Place.{keyRises, located}
+use Rattle.form_dpc.specs.Place.{keyRises, mappedPasses, located}
 use Rattle.form_dpc.specs.Timer.{timerFlags, timerTimes, timerPlaced, timerNumbers}
 use Rattle.history_tables.proofs.Search.{key-is}
-use Rattle.history_form.proofs.Clauses.{both, not-first, if-not}
+use Rattle.history_form.proofs.Clauses.{both, not-first, if-so, if-not}
 
 -- ---- places
 
@@ -20,8 +20,13 @@ use Rattle.history_form.proofs.Clauses.{both, not-first, if-not}
 pub record PlacedAt (w : List ℕ) (place from size : ℕ) : Type 0 where
   pub architecture : getD w (place + from) 0 ≤ 1
   pub kind : getD w (place + (from + 1)) 0 ≤ 1
+  pub image : getD w (place + (from + 1)) 0 ≡ 0 → getD w (place + (from + 4)) 0 ≡ 0
   pub free : locationRefusal (getD w place 0) size (architectureOf (getD w (place + from) 0))
       (backingOf (getD w (place + (from + 1)) 0) (getD w (place + (from + 2)) 0) (getD w (place + (from + 3)) 0) (getD w (place + (from + 4)) 0)) ≡ 0
+
+mapped-form : (kind mapped : ℕ) → mappedPasses kind mapped ≡ true → kind ≡ 0 → mapped ≡ 0
+unfolding mappedPasses
+mapped-form kind mapped e q = eqb-true mapped 0 (if-so (eqb kind 0) (eqb mapped 0) e (eq-eqb kind 0 q))
 
 pub located-form : (w : List ℕ) (place from size : ℕ) → located w place from size ≡ true → PlacedAt w place from size
 unfolding located
@@ -29,9 +34,11 @@ located-form w place from size e =
     let n = getD w (place + from) 0 in
     let k = getD w (place + (from + 1)) 0 in
     let r = locationRefusal (getD w place 0) size (architectureOf n) (backingOf k (getD w (place + (from + 2)) 0) (getD w (place + (from + 3)) 0) (getD w (place + (from + 4)) 0)) in
-    let a = not-first (ltb 1 n) (cond (ltb 1 k) false (eqb r 0)) e in
-    let b = not-first (ltb 1 k) (eqb r 0) (a .1) in
-    record { architecture = ltb-false 1 n (a .0); kind = ltb-false 1 k (b .0); free = eqb-true r 0 (b .1) }
+    let m = mappedPasses k (getD w (place + (from + 4)) 0) in
+    let a = not-first (ltb 1 n) (cond (ltb 1 k) false (cond m (eqb r 0) false)) e in
+    let b = not-first (ltb 1 k) (cond m (eqb r 0) false) (a .1) in
+    let c = both m (eqb r 0) (b .1) in
+    record { architecture = ltb-false 1 n (a .0); kind = ltb-false 1 k (b .0); image = mapped-form k (getD w (place + (from + 4)) 0) (c .0); free = eqb-true r 0 (c .1) }
 
 -- keys rise
 pub rises-form : (w : List ℕ) (base i : ℕ) → base ≤ 1000000 → suc i ≤ 4096 → keyRises w base (suc i) ≡ true → getD w (base + 32 * i) 0 < getD w (base + 32 * suc i) 0

@@ -11,7 +11,7 @@ use Rattle.history_tables.proofs.Numbers.{below-nth}
 use Rattle.history_chains.specs.Chains.{Standing}
 use Rattle.history.specs.Agree.{Agreeing, ShapeOf, dpcsFrom, headerOf}
 use Rattle.history_form.specs.Decoded.{limitsOf, threadBy, objectOf, dpcOf, tableOf, decoded}
-use Rattle.history_form.specs.Silent.{Words, Silent}
+use Rattle.history_form.specs.Words.{Words}
 use Rattle.history_form.proofs.Each.{length-each}
 use Rattle.history_form.proofs.HeaderForm.{header-row}
 use Rattle.history_form.proofs.DecodedThreads.{threads-hold, waits-hold, threads-fit}
@@ -24,7 +24,7 @@ use Rattle.history_form.proofs.Parts.{Parts}
 abbrev pub told : List ℕ → ℕ → ℕ
 told w a = getD w (dpcsFrom (limitsOf w) + 32 * below addressOf a (tableOf w) + 3) 0
 
-module _ (w : List ℕ) (words : Words w) (s : Silent w) (p : Parts w) where
+module _ (w : List ℕ) (words : Words w) (p : Parts w) where
   -- the record of the i-th DPC
   pub told-is : (i : ℕ) → i < getD w 5 0 → getD w (dpcsFrom (limitsOf w) + 32 * i + 3) 0 ≡ told w (dpcOf w i .address)
   told-is i h =
@@ -41,7 +41,7 @@ module _ (w : List ℕ) (words : Words w) (s : Silent w) (p : Parts w) where
           objects-fit = omega (arith, length-each (objectOf w) (getD w 4 0) 0, p .header .objects-fit);
           dpcs-fit = omega (arith, length-each (dpcOf w) (getD w 5 0) 0, p .header .dpcs-fit);
         };
-        fit = threads-fit w s (p .threads);
+        fit = threads-fit w (p .threads);
         ready-standing = subst (λ (n : ℕ). Standing n (decoded w .dispatcher .placed)) (sym threads) (p .ready .standing);
         waiting-standing = subst (λ (n : ℕ). Standing n (decoded w .dispatcher .waiters)) (sym threads) (p .waiters .standing);
         rising = objects-rise w (p .objects);
@@ -55,13 +55,13 @@ module _ (w : List ℕ) (words : Words w) (s : Silent w) (p : Parts w) where
   agreeing holder active h e =
       record {
         enough = p .header .enough;
-        numbers = subst (λ (n : ℕ). Row w 0 (headerOf (decoded w) n)) e (header-row w (p .header) s);
-        threads = threads-hold w s (p .threads);
-        waits = waits-hold w s (p .threads);
+        numbers = subst (λ (n : ℕ). Row w 0 (headerOf (decoded w) n)) e (header-row w (p .header));
+        threads = threads-hold w (p .threads);
+        waits = waits-hold w (p .threads);
         queues = p .ready .queues;
         waiters = p .waiters .holds;
-        objects = objects-hold w (p .objects) s;
-        dpcs = dpcs-hold w (p .dpcs) s holder h;
+        objects = objects-hold w (p .objects);
+        dpcs = dpcs-hold w (p .dpcs) holder h;
         work = work-holds w (p .dpcs) (p .queue);
         shape = shape;
       }

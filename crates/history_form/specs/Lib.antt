@@ -1,3 +1,3 @@
 pub mod Decoded
-pub mod Silent
+pub mod Words
 pub mod Form

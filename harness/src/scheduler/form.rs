@@ -100,8 +100,11 @@ impl<'a> Form<'a> {
         )?;
         let [first, second] = [words[TIMER_ARGUMENTS], words[TIMER_ARGUMENTS + 1]];
         holds(
-            words[POLICY] == 0
-                || words[POLICY] == 1 && first != 0 && second != 0 && first != second,
+            match words[POLICY] {
+                0 => first == 0 && second == 0,
+                1 => first != 0 && second != 0 && first != second,
+                _ => false,
+            },
             "policy",
         )?;
         holds(words[ACCEPTED] <= LIFETIME, "acceptances")?;
@@ -117,6 +120,10 @@ impl<'a> Form<'a> {
             holds((1..=4).contains(&thread[STATE]), "thread's state")?;
             holds(thread[RESULT] <= MOST_WAITED + 1, "wait result")?;
             holds(thread[STATUS] < 1 << 32, "exit status")?;
+            holds(
+                thread[STATE] == 4 || thread[STATUS] == 0,
+                "no exit, no exit status",
+            )?;
             holds(
                 (thread[STATE] == 1) == (self.words[CURRENT] == id),
                 "only the current one runs",
@@ -168,14 +175,22 @@ impl<'a> Form<'a> {
         holds(keys.is_sorted_by(|a, b| a < b), "keys rise")?;
         for object in self.objects_in_use() {
             match object[KIND] {
-                0 => holds(
-                    object[OWNER] == 0 || self.is_live(object[OWNER]),
-                    "owners are live",
-                )?,
+                0 => {
+                    holds(
+                        object[OWNER] == 0 || self.is_live(object[OWNER]),
+                        "owners are live",
+                    )?;
+                    let flags = [object[MANUAL], object[SIGNALED]];
+                    holds(flags == [0, 0], "a mutex has no flags")?;
+                }
                 1 => holds(object[MANUAL] < 2 && object[SIGNALED] < 2, "event's flags")?,
                 2 => {}
                 _ => return Err("object's kind"),
             }
+            holds(
+                object[KIND] == 0 || object[OWNER] == 0,
+                "what is no mutex has no owner",
+            )?;
         }
         Ok(())
     }
@@ -220,6 +235,10 @@ impl<'a> Form<'a> {
             if dpc[PHASE] != 0 {
                 let work = &dpc[WORK..];
                 holds(work[3] < 2 && work[9] < 2, "work's flags")?;
+                holds(
+                    work[3] == 1 || work[4..10] == [0; 6],
+                    "work of no timer names none",
+                )?;
                 holds(
                     (1..=self.words[ACCEPTED]).contains(&work[0]),
                     "work's sequence was given",
@@ -339,5 +358,8 @@ fn is_placed(record: &[u64], from: usize, sizes: [u64; 2]) -> bool {
         && base <= address
         && end <= u128::from(base) + u128::from(length)
         && u128::from(base) + u128::from(length) <= u128::from(u64::MAX)
-        && (kind == 0 || length <= mapped)
+        && match kind {
+            0 => record[from + 4] == 0,
+            _ => length <= mapped,
+        }
 }

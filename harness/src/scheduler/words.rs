@@ -71,6 +71,8 @@ pub const DPC_LOCATION: usize = 4;
 pub const ROUTINE: usize = 9;
 pub const CONTEXT: usize = 10;
 pub const WORK: usize = 11;
+/// How many words of work say its origin.
+pub const ORIGIN_WORDS: usize = 7;
 pub const DPC_USED: usize = 22;
 
 pub fn thread_at(id: u64) -> usize {

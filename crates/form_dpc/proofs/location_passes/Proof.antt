@@ -1,4 +1,5 @@
-use borrow.Author.Tests.{lt-ltb, le-ltb}
+use mathlib.Core.Path.{_∙_, sym}
+use borrow.Author.Tests.{lt-ltb, le-ltb, not-true, not-false}
 use Rattle.form_dpc.specs.Place.{located}
 use borrow.Author.Needs.{needs}
 use Rattle.form_dpc.proofs.location_passes.Statement.{statement}
@@ -39,6 +40,13 @@ add-get-in-4 c = search needs
 get-in-requires-5 : tie.Need-get-in-requires-5
 get-in-requires-5 c κs = search needs
 
+mapped-passes-requires : tie.Need-mapped-passes-requires
+mapped-passes-requires c κs = search needs
+
+returns-3 : tie.Need-returns-3
+unfolding located
+returns-3 c = simp (← (c .before .before .before .before .before .before .before .before .get-in .ensures), le-ltb _ _ (c .before .before .before .before .before .before .before .if1 .left), ← (c .before .before .before .before .before .before .get-in2 .ensures), le-ltb _ _ (c .before .before .before .before .before .if2 .left), ← (c .before .before .get-in5 .ensures), sym (c .before .mapped-passes .ensures) ∙ not-true _ (c .if3 .taken))
+
 backing-of-requires : tie.Need-backing-of-requires
 backing-of-requires c κs = search needs
 
@@ -51,9 +59,9 @@ architecture-of-requires c κs = search needs
 location-refusal-requires : tie.Need-location-refusal-requires
 location-refusal-requires c κs = search needs
 
-returns-3 : tie.Need-returns-3
+returns-4 : tie.Need-returns-4
 unfolding located
-returns-3 c = simp (← (c .before .before .before .before .before .before .before .before .before .before .get-in .ensures), le-ltb _ _ (c .before .before .before .before .before .before .before .before .before .if1 .left), ← (c .before .before .before .before .before .before .before .before .get-in2 .ensures), le-ltb _ _ (c .before .before .before .before .before .before .before .if2 .left)) (cc)
+returns-4 c = simp (← (c .before .before .before .before .before .before .before .before .before .before .before .before .get-in .ensures), le-ltb _ _ (c .before .before .before .before .before .before .before .before .before .before .before .if1 .left), ← (c .before .before .before .before .before .before .before .before .before .before .get-in2 .ensures), le-ltb _ _ (c .before .before .before .before .before .before .before .before .before .if2 .left), ← (c .before .before .before .before .before .before .get-in5 .ensures), sym (c .before .before .before .before .before .mapped-passes .ensures) ∙ not-false _ (c .before .before .before .before .if3 .left)) (cc)
 
 pub location-passes-spec : {M : Type 1} → statement M
 location-passes-spec =
@@ -70,8 +78,10 @@ location-passes-spec =
     get-in-requires-4
     add-get-in-4
     get-in-requires-5
+    mapped-passes-requires
+    returns-3
     backing-of-requires
     get-requires
     architecture-of-requires
     location-refusal-requires
-    returns-3)
+    returns-4)

@@ -171,7 +171,9 @@ impl Put {
             } => {
                 let place = words::find_dpc(words, limits, address).expect("a DPC");
                 let origin = record::origin_words(origin);
-                words[place + words::WORK + 3..][..origin.len()].copy_from_slice(&origin);
+                let put = &mut words[place + words::WORK + 3..][..words::ORIGIN_WORDS];
+                put.fill(0);
+                put[..origin.len()].copy_from_slice(&origin);
             }
         }
     }

@@ -7,9 +7,12 @@ use Rattle.form.proofs.header.policy_passes.Tie as tie
 get-requires : tie.Need-get-requires
 get-requires c κs = search needs
 
+has-no-arguments-requires : tie.Need-has-no-arguments-requires
+has-no-arguments-requires c κs = search needs
+
 returns : tie.Need-returns
 unfolding policyPasses
-returns c = simp (← (c .before .get .ensures), eq-eqb _ _ (c .if1 .taken))
+returns c = simp (← (c .before .before .get .ensures), eq-eqb _ _ (c .before .if1 .taken)) (cc)
 
 returns-2 : tie.Need-returns-2
 unfolding policyPasses
@@ -38,6 +41,7 @@ policy-passes-spec =
     tie.close
     (tie.spec
     get-requires
+    has-no-arguments-requires
     returns
     returns-2
     get-requires-2

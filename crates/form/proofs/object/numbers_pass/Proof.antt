@@ -17,9 +17,12 @@ returns c = simp (← (c .before .key-at .ensures), eq-eqb _ _ (c .if1 .taken))
 get-in-requires : tie.Need-get-in-requires
 get-in-requires c κs = search needs
 
+mutex-passes-requires : tie.Need-mutex-passes-requires
+mutex-passes-requires c κs = search needs
+
 returns-2 : tie.Need-returns-2
 unfolding objectNumbers
-returns-2 c = simp (← (c .before .before .before .key-at .ensures), ne-eqb _ _ (c .before .before .if1 .left), ← (c .before .before .before .before .entry-at .ensures), ← (c .before .get-in .ensures), eq-eqb _ _ (c .if2 .taken))
+returns-2 c = simp (← (c .before .before .before .before .key-at .ensures), ne-eqb _ _ (c .before .before .before .if1 .left), ← (c .before .before .before .before .before .entry-at .ensures), ← (c .before .before .get-in .ensures), eq-eqb _ _ (c .before .if2 .taken)) (cc)
 
 event-passes-requires : tie.Need-event-passes-requires
 event-passes-requires c κs = search needs
@@ -47,6 +50,7 @@ numbers-pass-spec =
     key-at-requires
     returns
     get-in-requires
+    mutex-passes-requires
     returns-2
     event-passes-requires
     returns-3

@@ -10,23 +10,23 @@ entry-at-requires c κs = search needs
 get-in-requires : tie.Need-get-in-requires
 get-in-requires c κs = search needs
 
-returns : tie.Need-returns
-unfolding ownerLives
-returns c = simp (← (c .before .before .entry-at .ensures), ← (c .before .get-in .ensures), ne-eqb _ _ (c .if1 .taken))
-
 get-in-requires-2 : tie.Need-get-in-requires-2
 get-in-requires-2 c κs = search needs
 
+returns : tie.Need-returns
+unfolding ownerLives
+returns c = simp (← (c .before .before .before .entry-at .ensures), ← (c .before .before .get-in .ensures), ne-eqb _ _ (c .if1 .taken), ← (c .before .get-in2 .ensures))
+
 returns-2 : tie.Need-returns-2
 unfolding ownerLives
-returns-2 c = simp (← (c .before .before .before .before .entry-at .ensures), ← (c .before .before .before .get-in .ensures), eq-eqb _ _ (c .before .before .if1 .left), ← (c .before .get-in2 .ensures), eq-eqb _ _ (c .if2 .taken))
+returns-2 c = simp (← (c .before .before .before .before .entry-at .ensures), ← (c .before .before .before .get-in .ensures), eq-eqb _ _ (c .before .if1 .left), ← (c .before .before .get-in2 .ensures), eq-eqb _ _ (c .if2 .taken))
 
 is-live-requires : tie.Need-is-live-requires
 is-live-requires c κs = search needs
 
 returns-3 : tie.Need-returns-3
 unfolding ownerLives
-returns-3 c = simp (← (c .before .before .before .before .before .entry-at .ensures), ← (c .before .before .before .before .get-in .ensures), eq-eqb _ _ (c .before .before .before .if1 .left), ← (c .before .before .get-in2 .ensures), ne-eqb _ _ (c .before .if2 .left)) (cc)
+returns-3 c = simp (← (c .before .before .before .before .before .entry-at .ensures), ← (c .before .before .before .before .get-in .ensures), eq-eqb _ _ (c .before .before .if1 .left), ← (c .before .before .before .get-in2 .ensures), ne-eqb _ _ (c .before .if2 .left)) (cc)
 
 pub owner-lives-spec : {M : Type 1} → statement M
 owner-lives-spec =
@@ -34,8 +34,8 @@ owner-lives-spec =
     (tie.spec
     entry-at-requires
     get-in-requires
-    returns
     get-in-requires-2
+    returns
     returns-2
     is-live-requires
     returns-3)
