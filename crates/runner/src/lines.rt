@@ -1,8 +1,10 @@
 // Bytes to lines: each line read, performed and answered.
+ghost use mathlib.Core.Path.{_≡_};
+ghost use Prim.Native.Nat.{_≤_};
+ghost use lib.ListN.{length};
+ghost use Rattle.runner.specs.Line.{answeredAs, answered};
 use super::session;
-use answers::Answer;
 use libc::STDOUT_FILENO;
-use script::command::Command;
 
 // How many bytes of the present line have come, its number, and the bench.
 pub struct Place {
@@ -19,12 +21,33 @@ pub fn start() -> Place {
     }
 }
 
-// `current` and `mutex_owner` print a bare number.
-fn shown(c: Command, a: Answer) -> Answer {
-    match c {
-        Command::Current => script::print::bare(a),
-        Command::MutexOwner(_) => script::print::bare(a),
-        _ => a,
+// How long the answer's line is, and the bench after it.
+pub struct Answered {
+    pub length: usize,
+    pub session: session::Session,
+}
+
+// A line, which comes without its newline, to the line of its answer, at the start of `text`.
+pub fn answer_line(
+    w: &mut [u64],
+    waiting: &mut [u64],
+    list: &mut [u64],
+    line: &[u8],
+    text: &mut [u8],
+    number: u64,
+    s: session::Session,
+) -> Answered
+    ensures { λ r. ⌜ answeredAs r (now (w .exit)) (now (waiting .exit)) (now (list .exit)) (now (text .exit)) ≡ answered (now (w .entry)) (now (waiting .entry)) (now (list .entry)) (now (line .entry)) (now (text .entry)) number s ⌝ }
+    ensures { λ r. ⌜ r .length ≤ length (now (text .exit)) ⌝ }
+{
+    let c = script::command::read_line(line, list);
+    let step = session::perform(w, waiting, list, s, c);
+    let answer = step.answer;
+    let next = step.session;
+    let end = script::print::write_answer(text, number, answer, waiting);
+    Answered {
+        length: end,
+        session: next,
     }
 }
 
@@ -41,12 +64,11 @@ fn finish(
     if line.len() < n {
         return p;
     }
-    let c = script::command::read_line(&line[..n], list);
-    let step = session::perform(w, waiting, list, p.session, c);
-    let answer = step.answer;
-    let next = step.session;
-    let length = script::print::write_answer(text, p.number, shown(c, answer), waiting);
-    io::write_all(STDOUT_FILENO, &text[..length]);
+    let s = p.session;
+    let a = answer_line(w, waiting, list, &line[..n], text, p.number, s);
+    let end = a.length;
+    let next = a.session;
+    io::write_all(STDOUT_FILENO, &text[..end]);
     Place {
         used: 0,
         number: std::num::wrapping_add_u64(p.number, 1),

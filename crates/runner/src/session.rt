@@ -1,4 +1,8 @@
 // What a command does to a bench: the scheduler in its words, and a clock.
+ghost use mathlib.Core.Path.{_≡_};
+ghost use Rattle.clock.specs.Numbers.{errorNumber};
+ghost use Rattle.answers.specs.Outcome.{outcome};
+ghost use Rattle.runner.specs.Session as spec;
 use answers::Answer;
 use clock::ClockError;
 use clock::Created;
@@ -6,8 +10,14 @@ use clock::Done;
 use clock::GuestClock;
 use clock::Outcome;
 use clock::Reading;
+use clock::core;
 use dpc::calls::WorkAnswer;
+use scheduler::changes;
+use scheduler::dpc_calls;
+use scheduler::reads;
+use scheduler::timer_calls;
 use script::command::Command;
+use script::print::bare;
 
 // Threads, objects and DPCs of a script's scheduler. It needs 6912 words.
 pub const THREADS: u64 = 16;
@@ -28,7 +38,9 @@ pub struct Step {
     pub session: Session,
 }
 
-pub fn start() -> Session {
+pub fn start() -> Session
+    ensures { λ r. ⌜ r ≡ spec.begin ⌝ }
+{
     Session {
         opened: false,
         timed: false,
@@ -44,7 +56,20 @@ pub fn start() -> Session {
     }
 }
 
-fn error_number(why: ClockError) -> u64 {
+fn unchanged(s: Session, a: Answer) -> Step
+    ensures { λ r. ⌜ r ≡ spec.unchanged s a ⌝ }
+{
+    Step {
+        answer: a,
+        session: s,
+    }
+}
+
+// ---- a clock
+
+fn error_number(why: ClockError) -> u64
+    ensures { λ r. ⌜ r ≡ errorNumber why ⌝ }
+{
     match why {
         ClockError::InvalidConfiguration => 25,
         ClockError::Overflow => 26,
@@ -52,187 +77,28 @@ fn error_number(why: ClockError) -> u64 {
     }
 }
 
-// What `start_dpc` prints of the work: its sequence.
-fn sequence_of(a: WorkAnswer) -> Answer {
-    match a {
-        WorkAnswer::Refused(n) => Answer::Refused(n),
-        WorkAnswer::Work(work) => Answer::Count(work.sequence),
-    }
-}
-
-// The commands on DPCs; another is none of them.
-fn on_dpcs(w: &mut [u64], c: Command) -> Answer {
-    match c {
-        Command::DpcInitializations => dpc::reads::dpc_initializations(w),
-        Command::InitializeDpc {
-            address,
-            architecture,
-            backing,
-            routine,
-            context,
-        } => timers::initialize::initialize_dpc(
-            w,
-            address,
-            architecture,
-            backing,
-            routine,
-            context,
-        ),
-        Command::ConfigureDpcDispatch { first, second } => dpc::calls::configure_dpc_dispatch(
-            w,
-            first,
-            second,
-        ),
-        Command::QueuedDpcs(position) => dpc::reads::queued_dpcs(w, position),
-        Command::InsertQueueDpc {
-            address,
-            first,
-            second,
-        } => dpc::calls::insert_queue_dpc(w, address, first, second),
-        Command::RemoveQueueDpc(address) => dpc::calls::remove_queue_dpc(w, address),
-        Command::StartDpc(address) => sequence_of(dpc::calls::start_dpc(w, address)),
-        Command::ReturnedDpc { address, sequence } => dpc::calls::returned_dpc(
-            w,
-            address,
-            sequence,
-        ),
-        Command::RestoredDpc { address, sequence } => dpc::calls::restored_dpc(
-            w,
-            address,
-            sequence,
-        ),
-        _ => Answer::Refused(28),
-    }
-}
-
-// The commands on timers, and on DPCs.
-fn on_timers(w: &mut [u64], c: Command) -> Answer {
-    match c {
-        Command::TimerInitializations => timers::reads::timer_initializations(w),
-        Command::TimerReadOverlap { address, size } => timers::reads::timer_read_overlap(
-            w,
-            address,
-            size,
-        ),
-        Command::TimerMetadataOverlap { address, size } => timers::reads::timer_metadata_overlap(
-            w,
-            address,
-            size,
-        ),
-        Command::InitializeTimer {
-            address,
-            architecture,
-            backing,
-            manual,
-        } => timers::initialize::initialize_timer(w, address, architecture, backing, manual),
-        Command::SetTimer {
-            address,
-            due,
-            absolute,
-            period,
-            dpc,
-        } => timers::arm::set_timer(w, address, due, absolute, period, dpc),
-        Command::CancelTimer(address) => timers::arm::cancel_timer(w, address),
-        Command::RequireTimerRelease { address, size } => timers::release::require_timer_release(
-            w,
-            address,
-            size,
-        ),
-        Command::RetireTimerBacking { address, size } => timers::release::retire_timer_backing(
-            w,
-            address,
-            size,
-        ),
-        _ => on_dpcs(w, c),
-    }
-}
-
-// The scheduler's commands; a clock's is none of them.
-fn on_scheduler(w: &mut [u64], waiting: &mut [u64], list: &[u64], c: Command) -> Answer {
-    match c {
-        Command::Event {
-            key,
-            manual,
-            signaled,
-        } => sync::events::initialize_event(w, key, manual, signaled),
-        Command::Create(p) => kernel::thread::create_thread(w, p),
-        Command::Wait {
-            all,
-            timed,
-            deadline,
-            irql,
-            count,
-        } => {
-            if list.len() < count {
-                return Answer::Refused(28);
-            }
-            dispatcher::wait::wait(w, &list[..count], all, timed, deadline, irql)
-        }
-        Command::Dispatch => dispatcher::dispatch::dispatch(w, waiting),
-        Command::Set(key) => sync::events::set_event(w, key),
-        Command::Yield => kernel::thread::yield_current(w),
-        Command::Current => kernel::thread::current(w),
-        Command::RequireEventRelease { base, size, layout } => {
-            sync::release::require_event_release(w, base, size, layout)
-        }
-        Command::RetireEventBacking { base, size, layout } => {
-            sync::release::retire_event_backing(w, base, size, layout)
-        }
-        Command::MutexOwner(key) => sync::mutexes::mutex_owner(w, key),
-        Command::AdoptMutex { key, owned, owner } => sync::mutexes::adopt_mutex(
-            w,
-            key,
-            owned,
-            owner,
-        ),
-        Command::MutexWaiters(key) => sync::mutexes::mutex_waiters(w, key),
-        Command::Priority { id, priority } => kernel::thread::priority(w, id, priority),
-        Command::InitializeMutex(key) => sync::mutexes::initialize_mutex(w, key),
-        Command::DelayUntil { deadline, irql } => dispatcher::wait::delay_until(w, deadline, irql),
-        Command::AdvanceTo(time) => dispatcher::advance::advance_to(w, time),
-        Command::ReleaseMutex(key) => sync::mutexes::release_mutex(w, key),
-        Command::ResetEvent(key) => sync::events::reset_event(w, key),
-        Command::Terminate(status) => kernel::thread::terminate(w, status),
-        _ => on_timers(w, c),
-    }
-}
-
-fn answer_of(done: Done) -> Answer {
+fn done_answer(done: Done) -> Answer
+    ensures { λ r. ⌜ r ≡ spec.doneAnswer done ⌝ }
+{
     match done {
         Done::Ok => Answer::Done,
         Done::Err(why) => Answer::Refused(error_number(why)),
     }
 }
 
-fn value_of(r: Reading) -> Answer {
+fn reading_answer(r: Reading) -> Answer
+    ensures { λ a. ⌜ a ≡ spec.readingAnswer r ⌝ }
+{
     match r {
         Reading::Ok(n) => Answer::Count(n),
         Reading::Err(why) => Answer::Refused(error_number(why)),
     }
 }
 
-fn with_clock(s: Session, o: Outcome) -> Step {
-    let done = o.answer;
-    let after = o.clock;
-    Step {
-        answer: answer_of(done),
-        session: Session {
-            opened: s.opened,
-            timed: s.timed,
-            clock: after,
-        },
-    }
-}
-
-fn unchanged(s: Session, a: Answer) -> Step {
-    Step {
-        answer: a,
-        session: s,
-    }
-}
-
 // A clock accepted takes the place of the one before.
-fn new_clock(s: Session, made: Created) -> Step {
+fn new_clock(s: Session, made: Created) -> Step
+    ensures { λ r. ⌜ r ≡ spec.newClock s made ⌝ }
+{
     match made {
         Created::Ok(c) => Step {
             answer: Answer::Done,
@@ -246,83 +112,232 @@ fn new_clock(s: Session, made: Created) -> Step {
     }
 }
 
-// The commands on a clock that there is; another is none of them.
-fn on_clock(s: Session, c: Command) -> Step {
-    let now = s.clock;
-    match c {
-        Command::ClockInstruction => with_clock(s, clock::core::instruction(now)),
-        Command::ClockAdvanceMicroseconds(n) => with_clock(
-            s,
-            clock::core::advance_microseconds(now, n),
-        ),
-        Command::ClockAdvance100ns(n) => with_clock(s, clock::core::advance_100ns(now, n)),
-        Command::ClockAdvanceMilliseconds(n) => with_clock(
-            s,
-            clock::core::advance_milliseconds(now, n),
-        ),
-        Command::ClockFlushCycles => with_clock(s, clock::core::flush_cycles(now)),
-        Command::ClockObserve => with_clock(s, clock::core::observe(now)),
-        Command::ClockQpc => unchanged(s, value_of(clock::core::qpc(now))),
-        Command::ClockTick64 => unchanged(s, value_of(clock::core::tick64(now))),
-        Command::ClockTsc => unchanged(s, value_of(clock::core::tsc(now))),
-        _ => unchanged(s, Answer::Refused(28)),
-    }
-}
-
-fn is_clock(c: Command) -> bool {
-    match c {
-        Command::ClockInstruction => true,
-        Command::ClockAdvanceMicroseconds(_) => true,
-        Command::ClockAdvance100ns(_) => true,
-        Command::ClockAdvanceMilliseconds(_) => true,
-        Command::ClockFlushCycles => true,
-        Command::ClockObserve => true,
-        Command::ClockQpc => true,
-        Command::ClockTick64 => true,
-        Command::ClockTsc => true,
-        _ => false,
-    }
-}
-
-// A command after an `open` has been accepted: another `open` is refused with 28, as is a clock's before a `clock new`.
-fn go_on(w: &mut [u64], waiting: &mut [u64], list: &[u64], s: Session, c: Command) -> Step {
-    if let Command::ClockNew {
-        utc,
-        uptime,
-        offset,
-        mhz,
-    } = c {
-        return new_clock(s, clock::core::new(utc, uptime, offset, mhz));
-    }
-    if is_clock(c) {
-        if s.timed {
-            return on_clock(s, c);
-        }
+// The clock after a call; before a `clock new` has been accepted there is none.
+fn moved(s: Session, o: Outcome) -> Step
+    ensures { λ r. ⌜ r ≡ spec.moved s o ⌝ }
+{
+    if !s.timed {
         return unchanged(s, Answer::Refused(28));
     }
-    unchanged(s, on_scheduler(w, waiting, list, c))
+    let done = o.answer;
+    let after = o.clock;
+    Step {
+        answer: done_answer(done),
+        session: Session {
+            opened: s.opened,
+            timed: s.timed,
+            clock: after,
+        },
+    }
 }
 
-fn opened(s: Session) -> Session {
+fn told(s: Session, r: Reading) -> Step
+    ensures { λ a. ⌜ a ≡ spec.told s r ⌝ }
+{
+    if !s.timed {
+        return unchanged(s, Answer::Refused(28));
+    }
+    unchanged(s, reading_answer(r))
+}
+
+// ---- the scheduler
+
+// What `start_dpc` prints of the work: its sequence.
+fn sequence_of(a: WorkAnswer) -> Answer
+    ensures { λ r. ⌜ r ≡ spec.sequenceOf a ⌝ }
+{
+    match a {
+        WorkAnswer::Refused(n) => Answer::Refused(n),
+        WorkAnswer::Work(work) => Answer::Count(work.sequence),
+    }
+}
+
+// The kinds and keys are the first `count` numbers of the list.
+fn wait(
+    w: &mut [u64],
+    list: &[u64],
+    all: bool,
+    timed: bool,
+    deadline: u64,
+    irql: u8,
+    count: usize,
+) -> Answer
+    ensures { λ r. ⌜ outcome r (now (w .exit)) ≡ spec.waited (now (w .entry)) (now (list .entry)) all timed deadline irql count ⌝ }
+{
+    if list.len() < count {
+        return Answer::Refused(28);
+    }
+    changes::wait(w, &list[..count], all, timed, deadline, irql)
+}
+
+// The commands on the scheduler's words, but for a dispatch; another is none of them.
+fn on_words(w: &mut [u64], list: &[u64], c: Command) -> Answer
+    ensures { λ r. ⌜ outcome r (now (w .exit)) ≡ spec.onWords (now (w .entry)) (spec.asked (now (list .entry)) c) ⌝ }
+{
+    match c {
+        Command::Event {
+            key,
+            manual,
+            signaled,
+        } => changes::initialize_event(w, key, manual, signaled),
+        Command::Create(p) => changes::create_thread(w, p),
+        Command::Wait {
+            all,
+            timed,
+            deadline,
+            irql,
+            count,
+        } => wait(w, list, all, timed, deadline, irql, count),
+        Command::Set(key) => changes::set_event(w, key),
+        Command::Yield => changes::yield_current(w),
+        Command::Current => bare(reads::current(w)),
+        Command::RequireEventRelease { base, size, layout } => reads::require_event_release(
+            w,
+            base,
+            size,
+            layout,
+        ),
+        Command::RetireEventBacking { base, size, layout } => changes::retire_event_backing(
+            w,
+            base,
+            size,
+            layout,
+        ),
+        Command::MutexOwner(key) => bare(reads::mutex_owner(w, key)),
+        Command::AdoptMutex { key, owned, owner } => changes::adopt_mutex(w, key, owned, owner),
+        Command::MutexWaiters(key) => reads::mutex_waiters(w, key),
+        Command::Priority { id, priority } => changes::priority(w, id, priority),
+        Command::InitializeMutex(key) => changes::initialize_mutex(w, key),
+        Command::DelayUntil { deadline, irql } => changes::delay_until(w, deadline, irql),
+        Command::AdvanceTo(time) => changes::advance_to(w, time),
+        Command::ReleaseMutex(key) => changes::release_mutex(w, key),
+        Command::ResetEvent(key) => changes::reset_event(w, key),
+        Command::Terminate(status) => changes::terminate(w, status),
+        Command::TimerInitializations => timer_calls::timer_initializations(w),
+        Command::DpcInitializations => dpc_calls::dpc_initializations(w),
+        Command::TimerReadOverlap { address, size } => timer_calls::timer_read_overlap(
+            w,
+            address,
+            size,
+        ),
+        Command::TimerMetadataOverlap { address, size } => timer_calls::timer_metadata_overlap(
+            w,
+            address,
+            size,
+        ),
+        Command::InitializeTimer {
+            address,
+            architecture,
+            backing,
+            manual,
+        } => timer_calls::initialize_timer(w, address, architecture, backing, manual),
+        Command::InitializeDpc {
+            address,
+            architecture,
+            backing,
+            routine,
+            context,
+        } => timer_calls::initialize_dpc(w, address, architecture, backing, routine, context),
+        Command::SetTimer {
+            address,
+            due,
+            absolute,
+            period,
+            dpc,
+        } => timer_calls::set_timer(w, address, due, absolute, period, dpc),
+        Command::CancelTimer(address) => timer_calls::cancel_timer(w, address),
+        Command::RequireTimerRelease { address, size } => timer_calls::require_timer_release(
+            w,
+            address,
+            size,
+        ),
+        Command::RetireTimerBacking { address, size } => timer_calls::retire_timer_backing(
+            w,
+            address,
+            size,
+        ),
+        Command::ConfigureDpcDispatch { first, second } => dpc_calls::configure_dpc_dispatch(
+            w,
+            first,
+            second,
+        ),
+        Command::QueuedDpcs(position) => dpc_calls::queued_dpcs(w, position),
+        Command::InsertQueueDpc {
+            address,
+            first,
+            second,
+        } => dpc_calls::insert_queue_dpc(w, address, first, second),
+        Command::RemoveQueueDpc(address) => dpc_calls::remove_queue_dpc(w, address),
+        Command::StartDpc(address) => sequence_of(dpc_calls::start_dpc(w, address)),
+        Command::ReturnedDpc { address, sequence } => dpc_calls::returned_dpc(w, address, sequence),
+        Command::RestoredDpc { address, sequence } => dpc_calls::restored_dpc(w, address, sequence),
+        _ => Answer::Refused(28),
+    }
+}
+
+// ---- commands
+
+// A command after an `open` has been accepted: another `open` is refused with 28.
+fn go_on(w: &mut [u64], waiting: &mut [u64], list: &[u64], s: Session, c: Command) -> Step
+    ensures { λ r. ⌜ spec.performedAs r (now (w .exit)) (now (waiting .exit)) ≡ spec.goneOn (now (w .entry)) (now (waiting .entry)) s (spec.asked (now (list .entry)) c) ⌝ }
+{
+    let now = s.clock;
+    match c {
+        Command::Dispatch => unchanged(s, changes::dispatch(w, waiting)),
+        Command::ClockNew {
+            utc,
+            uptime,
+            offset,
+            mhz,
+        } => new_clock(s, core::new(utc, uptime, offset, mhz)),
+        Command::ClockInstruction => moved(s, core::instruction(now)),
+        Command::ClockAdvanceMicroseconds(n) => moved(s, core::advance_microseconds(now, n)),
+        Command::ClockAdvance100ns(n) => moved(s, core::advance_100ns(now, n)),
+        Command::ClockAdvanceMilliseconds(n) => moved(s, core::advance_milliseconds(now, n)),
+        Command::ClockFlushCycles => moved(s, core::flush_cycles(now)),
+        Command::ClockObserve => moved(s, core::observe(now)),
+        Command::ClockQpc => told(s, core::qpc(now)),
+        Command::ClockTick64 => told(s, core::tick64(now)),
+        Command::ClockTsc => told(s, core::tsc(now)),
+        _ => unchanged(s, on_words(w, list, c)),
+    }
+}
+
+fn is_done(a: Answer) -> bool
+    ensures { λ r. ⌜ r ≡ spec.accepts a ⌝ }
+{
+    if let Answer::Done = a {
+        return true;
+    }
+    false
+}
+
+// Limits 16, 64, 64.
+fn begin(w: &mut [u64], s: Session, priority: u64) -> Step
+    ensures { λ r. ⌜ r ≡ spec.openedBy s (spec.opensWith (now (w .entry)) priority .answer) ⌝ }
+    ensures { λ r. ⌜ now (w .exit) ≡ spec.opensWith (now (w .entry)) priority .words ⌝ }
+{
+    let answer = changes::open(w, priority, THREADS, OBJECTS, DPCS);
     let clock = s.clock;
-    Session {
-        opened: true,
-        timed: s.timed,
-        clock,
+    Step {
+        answer,
+        session: Session {
+            opened: is_done(answer),
+            timed: s.timed,
+            clock,
+        },
     }
 }
 
 // Before an `open` has been accepted every other line is refused with 28.
-pub fn perform(w: &mut [u64], waiting: &mut [u64], list: &[u64], s: Session, c: Command) -> Step {
+pub fn perform(w: &mut [u64], waiting: &mut [u64], list: &[u64], s: Session, c: Command) -> Step
+    ensures { λ r. ⌜ spec.performedAs r (now (w .exit)) (now (waiting .exit)) ≡ spec.performed (now (w .entry)) (now (waiting .entry)) (now (list .entry)) s c ⌝ }
+{
     if s.opened {
         return go_on(w, waiting, list, s, c);
     }
     if let Command::Open(p) = c {
-        let answer = kernel::open::open(w, p, THREADS, OBJECTS, DPCS);
-        if let Answer::Done = answer {
-            return unchanged(opened(s), Answer::Done);
-        }
-        return unchanged(s, answer);
+        return begin(w, s, p);
     }
     unchanged(s, Answer::Refused(28))
 }

@@ -1,0 +1,35 @@
+use borrow.Author.Tests.{lt-ltb, le-ltb}
+use lib.ListN.{length-take}
+use native.Mathlib.Omega.{arith}
+use Rattle.runner.specs.Session.{waited}
+use borrow.Author.Needs.{needs}
+use Rattle.runner.proofs.session.wait.Statement.{statement}
+use Rattle.runner.proofs.session.wait.Tie as tie
+use Rattle.runner.proofs.session.wait.Reads as reads
+use Rattle.runner.proofs.session.wait.Lts as lts
+use Rattle.scheduler.proofs.changes.wait.Reads as wait-reads
+
+-- src/session.rt:168:9
+returns : tie.Need-returns
+unfolding waited
+returns c = simp (lt-ltb _ _ (c .if1 .taken))
+
+-- src/session.rt:170:22
+slice-aggregate-wait : tie.Need-slice-aggregate-wait
+slice-aggregate-wait c = simp length-take (omega arith)
+
+-- src/session.rt:170:5
+wait-requires : tie.Need-wait-requires
+wait-requires c κs = search needs
+
+-- src/session.rt:156:1
+same-length : tie.Need-same-length
+same-length c = search needs
+
+-- src/session.rt:156:1
+returns-2 : tie.Need-returns-2
+unfolding waited
+returns-2 c = simp (le-ltb _ _ (c .before .before .before .before .before .if1 .left)) (c .before .before .wait .ensures)
+
+pub wait-spec : {M : Type 1} → statement M
+wait-spec = tie.close (tie.spec returns slice-aggregate-wait wait-requires same-length returns-2)
