@@ -1,4 +1,5 @@
 // Runs a script: one call a line, from the file that the first argument names or from standard input, and one line of answer for each.
+use libc::STDERR_FILENO;
 use libc::STDIN_FILENO;
 use runner::lines;
 
@@ -15,7 +16,11 @@ fn run(fd: i32) {
     while turns > 0 {
         let mut chunk = [0u8; 4096];
         let got = libc::read(fd, &mut chunk);
-        if got <= 0 {
+        if got < 0 {
+            os::fail(b"bench: reading");
+            break;
+        }
+        if got == 0 {
             break;
         }
         let n = io::count(got, &chunk);
@@ -30,7 +35,10 @@ fn run(fd: i32) {
         );
         turns -= 1;
     }
-    lines::end(&mut w, &mut waiting, &mut list, &mut line, &mut text, at);
+    let last = lines::end(&mut w, &mut waiting, &mut list, &mut line, &mut text, at);
+    if last.lost {
+        io::write_all(STDERR_FILENO, b"bench: not all answers could be written\n");
+    }
 }
 
 fn main() {

@@ -6,11 +6,12 @@ ghost use Rattle.runner.specs.Line.{answeredAs, answered};
 use super::session;
 use libc::STDOUT_FILENO;
 
-// How many bytes of the present line have come, its number, and the bench.
+// How many bytes of the present line have come, its number, the bench, and whether some output could not be written.
 pub struct Place {
     pub used: usize,
     pub number: u64,
     pub session: session::Session,
+    pub lost: bool,
 }
 
 pub fn start() -> Place {
@@ -18,6 +19,7 @@ pub fn start() -> Place {
         used: 0,
         number: 1,
         session: session::start(),
+        lost: false,
     }
 }
 
@@ -51,6 +53,14 @@ pub fn answer_line(
     }
 }
 
+// Some output is lost, or this could not be written.
+fn is_lost(before: bool, written: bool) -> bool {
+    if written {
+        return before;
+    }
+    true
+}
+
 // The line that has come, answered. A line too long has more than 4,096 bytes in `line`, and cannot be read.
 fn finish(
     w: &mut [u64],
@@ -68,11 +78,12 @@ fn finish(
     let a = answer_line(w, waiting, list, &line[..n], text, p.number, s);
     let end = a.length;
     let next = a.session;
-    io::write_all(STDOUT_FILENO, &text[..end]);
+    let lost = is_lost(p.lost, io::write_all(STDOUT_FILENO, &text[..end]));
     Place {
         used: 0,
         number: std::num::wrapping_add_u64(p.number, 1),
         session: next,
+        lost,
     }
 }
 
@@ -96,6 +107,7 @@ pub fn byte(
             used: n + 1,
             number: p.number,
             session: s,
+            lost: p.lost,
         };
     }
     p
@@ -127,8 +139,9 @@ pub fn end(
     line: &mut [u8],
     text: &mut [u8],
     p: Place,
-) {
+) -> Place {
     if p.used != 0 {
-        finish(w, waiting, list, line, text, p);
+        return finish(w, waiting, list, line, text, p);
     }
+    p
 }

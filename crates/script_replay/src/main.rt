@@ -78,4 +78,5 @@ fn main() {
         );
         turns -= 1;
     }
+    lines::end(&mut w, &mut waiting, &mut list, &mut line, &mut text, at);
 }

@@ -34,6 +34,9 @@ write-all-requires : tie.Need-write-all-requires
 write-all-requires c κs = search needs
 
 -- src/lines.rt:74:17
+is-lost-requires : tie.Need-is-lost-requires
+is-lost-requires c κs = search needs
+
 wrapping-add-u64-requires : tie.Need-wrapping-add-u64-requires
 wrapping-add-u64-requires c κs = search needs
 
@@ -67,6 +70,7 @@ finish-spec =
     slice-reshare-prefix-write-all
     slice-aggregate-write-all
     write-all-requires
+    is-lost-requires
     wrapping-add-u64-requires
     same-length
     same-length-2
