@@ -7,7 +7,7 @@ const CALLS: u32 = 50_000;
 
 pub fn heading() {
     println!(
-        "{:<16}{:>12}{:>12}{:>10}",
+        "{:<22}{:>12}{:>12}{:>10}",
         "median of", "proved ns", "Rust ns", "ratio"
     );
 }
@@ -31,7 +31,7 @@ pub fn ratio<P, O>(name: &str, mut proved: impl FnMut() -> P, mut original: impl
         }
     }
     let [ours, theirs, ratio] = times.map(median);
-    println!("{name:<16}{ours:>12.2}{theirs:>12.2}{ratio:>10.2}");
+    println!("{name:<22}{ours:>12.2}{theirs:>12.2}{ratio:>10.2}");
 }
 
 fn nanoseconds<T>(call: &mut impl FnMut() -> T) -> f64 {
