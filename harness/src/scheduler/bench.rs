@@ -1,5 +1,6 @@
 //! The same random calls on the proved scheduler and on the original, in calls a second.
 mod advance;
+mod kinds;
 mod unguarded;
 
 use super::answer::Answer;
@@ -40,6 +41,10 @@ pub fn run() {
             row(&format!("{threads} threads, {name}"), side, &lists);
         }
     }
+    for threads in THREADS {
+        println!();
+        kinds::run(threads, &lists(threads));
+    }
     for (name, side) in SIDES {
         println!();
         advance::run(name, side);
@@ -51,6 +56,8 @@ struct List {
     words: Vec<u64>,
     scheduler: Scheduler,
     calls: Vec<(Call, Vec<Object>)>,
+    /// Which of the calls are refused.
+    refused: Vec<bool>,
     /// The original at the end.
     end: Reference,
 }
@@ -83,7 +90,7 @@ impl List {
             }
         }
         let scheduler = reference.scheduler().clone();
-        let mut calls = Vec::new();
+        let (mut calls, mut refused) = (Vec::new(), Vec::new());
         while calls.len() < LIST {
             let state = reference.state();
             let call = draw.call(&state, limits);
@@ -93,7 +100,8 @@ impl List {
             if call.opens() || call.reads() || reference.foretold(&call).is_some() {
                 continue;
             }
-            made(&mut reference, &call);
+            let answer = made(&mut reference, &call);
+            refused.push(matches!(answer, Answer::Refused(_)));
             let objects = objects(&call).expect("a list that the original can be given");
             calls.push((call, objects));
         }
@@ -101,6 +109,7 @@ impl List {
             words,
             scheduler,
             calls,
+            refused,
             end: reference,
         }
     }
@@ -140,9 +149,9 @@ fn opened(limits: Limits) -> (Vec<u64>, Reference) {
     (words, Reference::new(priority, limits))
 }
 
-fn made(reference: &mut Reference, call: &Call) {
+fn made(reference: &mut Reference, call: &Call) -> Answer {
     let lent = Lengths::needed(reference.limits(), call);
-    reference.call(call, lent).expect("an answer");
+    reference.call(call, lent).expect("an answer")
 }
 
 fn row(name: &str, side: Side, lists: &[List]) {
