@@ -6,8 +6,8 @@
  * apart, and a pointer may be anything where its length is 0. Words lent as const are only read.
  *
  * Each function returns 0, or the number of the refusal (enum bench_refusal). A refused call changes nothing, except
- * clock_instruction: when its flush overflows, the 100 cycles stay added. The answer of an accepted call on a scheduler stands
- * in `out`: a tag (enum bench_tag), and the values named there behind it. What is left of `out` stays.
+ * clock_instruction: when its flush overflows, the 100 cycles stay added and the countdown is 1000. The answer of an accepted
+ * call on a scheduler stands in `out`: a tag (enum bench_tag), and the values named there behind it. What is left of `out` stays.
  *
  * Truth values are numbers: 0 no, anything else yes. Times are in ticks of 100 ns.
  */
