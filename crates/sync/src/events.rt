@@ -73,7 +73,7 @@ pub fn event_state(w: &[u64], key: u64) -> Answer
     event_at(w, objects::place_of(w, objects::EVENT, key))
 }
 
-// Whether the event was signaled, and the event signaled or not.
+// Whether the event whose record stands at place `at` is signaled.
 fn was_signaled(w: &[u64], at: usize) -> bool
     ensures { λ r. ⌜ r ≡ signaledAt (now (w .entry)) at ⌝ }
 {
