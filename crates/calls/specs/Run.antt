@@ -5,12 +5,8 @@ use mathlib.Core.Bool.{cond, not}
 use mathlib.Core.Option.{Option, none, some}
 use mathlib.Core.Path.{_≡_}
 use lib.Dec.{eqb}
-use lib.ListN.{replicate}
 use Rattle.answers.specs.declared.Answer as code
 use Rattle.answers.specs.declared.Answer.the-variants as answer
-use Rattle.objects.specs.Objects.{placeOf}
-use Rattle.dpcs.specs.Record.{numberOf, placeAt, dpcAt}
-use Rattle.timers.specs.Record.{timerAt}
 use Rattle.dispatcher.specs.Read.{waitedObject}
 use Rattle.dispatcher.specs.declared.read.ThreadView.{ThreadView}
 use Rattle.dispatcher.specs.declared.read.ThreadAnswer.{ThreadAnswer}
@@ -20,10 +16,12 @@ use Rattle.dispatcher.specs.declared.read.PlaceAnswer.the-variants as object
 use Rattle.model.specs.State as state
 use Rattle.model.specs.State.{Named, Status, running, ready, waiting, exited, WaitResult, satisfied, timeout}
 use Rattle.model.specs.Waits.{noObject}
-use Rattle.model.specs.Answer.{Answer, Refused, None, ThreadIs, TimerImageIs, DpcImageIs}
+use Rattle.model.specs.Reads.{blank}
+use Rattle.model.specs.Answer.{Answer, Refused, None, ThreadIs, ImageIs}
 use Rattle.model.specs.Call.{Call, Read}
 use Rattle.model.specs.Call as call
 use Rattle.call_answers.specs.Told.{toldWith, told, toldTimer, toldDpc, toldWork, toldPolicy, toldCounters, toldObject}
+use Rattle.calls.specs.Images.{Imaged}
 use Rattle.calls.specs.Called.{ReadResult, Result, called}
 
 -- ---- a thread, as `thread` and `waited_object` read it
@@ -58,29 +56,28 @@ toldThread w (thread.Refused n) = Refused n
 toldThread w (thread.Thread v) = ThreadIs (v .id) (record { priority = v .priority; status = statusRead w v; result = resultRead (v .result) })
 toldThread w thread.None = None
 
--- ---- an image: of which record it is
+-- ---- an image: its size, with the output after the call
 
-abbrev pub toldImage : Answer → code.Answer → Answer
-toldImage image (answer.Refused n) = Refused n
-toldImage image answer.Done = image
-toldImage image answer.None = image
-toldImage image (answer.Thread id) = image
-toldImage image (answer.Flag b) = image
-toldImage image (answer.Count n) = image
-toldImage image (answer.Satisfied i) = image
-toldImage image answer.Timeout = image
-toldImage image answer.Blocked = image
-toldImage image (answer.Run id) = image
-toldImage image (answer.AdvanceTo time) = image
-toldImage image (answer.Deadlocked n) = image
-toldImage image answer.Finished = image
-toldImage image (answer.Event key manual signaled) = image
+abbrev pub toldImage : List ℕ → code.Answer → Answer
+toldImage out (answer.Refused n) = Refused n
+toldImage out answer.Done = told answer.Done
+toldImage out answer.None = told answer.None
+toldImage out (answer.Thread id) = told (answer.Thread id)
+toldImage out (answer.Flag b) = told (answer.Flag b)
+toldImage out (answer.Count n) = ImageIs n out
+toldImage out (answer.Satisfied i) = told (answer.Satisfied i)
+toldImage out answer.Timeout = told answer.Timeout
+toldImage out answer.Blocked = told answer.Blocked
+toldImage out (answer.Run id) = told (answer.Run id)
+toldImage out (answer.AdvanceTo time) = told (answer.AdvanceTo time)
+toldImage out (answer.Deadlocked n) = told (answer.Deadlocked n)
+toldImage out answer.Finished = told answer.Finished
+toldImage out (answer.Event key manual signaled) = told (answer.Event key manual signaled)
+
+abbrev pub imageTold : Imaged → Answer
+imageTold i = toldImage (i .output) (i .answer)
 
 -- ---- what a call answers
-
--- an output of a length, before the call
-abbrev pub blank : ℕ → List ℕ
-blank n = replicate n 0
 
 abbrev pub readTold : List ℕ → (r : Read) → ReadResult r → Answer
 readTold w call.Current a = told a
@@ -96,8 +93,8 @@ readTold w (call.TimerAt address) a = toldTimer a
 readTold w (call.DpcAt address) a = toldDpc a
 readTold w (call.Timers position) a = toldTimer a
 readTold w (call.Dpcs position) a = toldDpc a
-readTold w (call.TimerImage address n) a = toldImage (TimerImageIs (timerAt w (placeOf w 2 address))) (a (blank n) .answer)
-readTold w (call.DpcImage address n) a = toldImage (DpcImageIs (dpcAt w (placeAt w (numberOf w address)))) (a (blank n) .answer)
+readTold w (call.TimerImage address n) a = imageTold (a (blank n))
+readTold w (call.DpcImage address n) a = imageTold (a (blank n))
 readTold w call.TimerInitializations a = told a
 readTold w call.DpcInitializations a = told a
 readTold w (call.TimerReadOverlap address size) a = told a

@@ -41,7 +41,8 @@ use Rattle.form.specs.Form.{inForm}
 use Rattle.call_answers.specs.Told.{told, toldWith, toldWork}
 use Rattle.calls.specs.Guard.{guarded, guardedDispatch, guardedStart}
 use Rattle.calls.specs.Called.{called}
-use Rattle.calls.specs.Run.{blank, answered, left}
+use Rattle.calls.specs.Run.{answered, left}
+use Rattle.model.specs.Reads.{blank}
 use Rattle.model.specs.Call.{Call}
 use Rattle.model.specs.Call as call
 use Rattle.model.proofs.ListLaws.{not-both}

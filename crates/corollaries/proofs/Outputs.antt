@@ -24,7 +24,8 @@ use Rattle.call_answers.specs.Told.{toldWith}
 use Rattle.calls.specs.Guard.{imageRefused, guardedImage}
 use Rattle.calls.specs.Images.{Imaged, imaged, timerImaged, dpcImaged}
 use Rattle.calls.specs.Called.{readCalled, called}
-use Rattle.calls.specs.Run.{blank, answered, left}
+use Rattle.calls.specs.Run.{answered, left}
+use Rattle.model.specs.Reads.{blank}
 use Rattle.model.specs.Lists.{present}
 use Rattle.model.specs.State.{State, timer}
 use Rattle.model.specs.Waits.{timerAt}

@@ -3,7 +3,7 @@ use Prim.Native.Nat.{ℕ, _<_}
 use mathlib.Core.Bool.{Bool, true, false}
 use mathlib.Core.Logic.{_⊎_}
 use mathlib.Core.Path.{_≡_}
-use Rattle.model.specs.Answer.{Answer, Refused, Done, None, ThreadNumber, Flag, Number, Satisfied, Timeout, Blocked, Run, AdvanceTo, Deadlocked, Finished, ThreadIs, ObjectIs, EventIs, TimerIs, DpcIs, WorkIs, PolicyIs, CountersAre, TimerImageIs, DpcImageIs}
+use Rattle.model.specs.Answer.{Answer, Refused, Done, None, ThreadNumber, Flag, Number, Satisfied, Timeout, Blocked, Run, AdvanceTo, Deadlocked, Finished, ThreadIs, ObjectIs, EventIs, TimerIs, DpcIs, WorkIs, PolicyIs, CountersAre, ImageIs}
 use Rattle.model.specs.Call.{Call, Open, Dispatch, Reads, TimerImage, DpcImage}
 use Rattle.model.specs.Refusal.{badLimits, wordsNeeded}
 
@@ -29,8 +29,7 @@ isRefused (DpcIs x) = false
 isRefused (WorkIs x) = false
 isRefused (PolicyIs x) = false
 isRefused (CountersAre x) = false
-isRefused (TimerImageIs x) = false
-isRefused (DpcImageIs x) = false
+isRefused (ImageIs size bytes) = false
 
 -- an `open` with bad limits or short memory
 abbrev pub ShortOpen : Call → Type 0

@@ -13,7 +13,8 @@ use Rattle.form.specs.Form.{inForm}
 use Rattle.call_answers.specs.Told.{toldWith, told, toldWork}
 use Rattle.calls.specs.Guard.{guarded, guardedDispatch, guardedStart}
 use Rattle.calls.specs.Called.{called}
-use Rattle.calls.specs.Run.{blank, answered, left, Lent}
+use Rattle.calls.specs.Run.{answered, left, Lent}
+use Rattle.model.specs.Reads.{blank}
 use Rattle.model.specs.State.{State}
 use Rattle.model.specs.Answer.{Outcome}
 use Rattle.model.specs.Call.{Call}

@@ -55,8 +55,7 @@ objectOf (log.DpcIs d) = noObject
 objectOf (log.WorkIs w) = noObject
 objectOf (log.PolicyIs p) = noObject
 objectOf (log.CountersAre c) = noObject
-objectOf (log.TimerImageIs t) = noObject
-objectOf (log.DpcImageIs d) = noObject
+objectOf (log.ImageIs size bytes) = noObject
 
 object-told : (p : PlaceAnswer) → objectOf (toldObject p) ≡ namedBy p
 object-told (object.Refused n) = refl

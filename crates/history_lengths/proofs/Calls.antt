@@ -10,7 +10,8 @@ use Rattle.model.specs.Call.{Call}
 use Rattle.model.specs.Call as call
 use Rattle.calls.specs.Guard.{guarded, guardedDispatch, guardedStart}
 use Rattle.calls.specs.Called.{called}
-use Rattle.calls.specs.Run.{left, blank}
+use Rattle.calls.specs.Run.{left}
+use Rattle.model.specs.Reads.{blank}
 use Rattle.history_lengths.proofs.Lengths.{cond-same, words-cond}
 use Rattle.history_lengths.proofs.Kernel as kernel
 use Rattle.history_lengths.proofs.Sync as sync

@@ -31,9 +31,7 @@ pub data Answer : Type 0 where
   WorkIs : DpcWork → Answer
   PolicyIs : Policy → Answer
   CountersAre : Counters → Answer
-  -- the image of this record stands at the head of the output
-  TimerImageIs : Timer → Answer
-  DpcImageIs : Dpc → Answer
+  ImageIs : ℕ → List ℕ → Answer  -- an image's size, and what an output of noughts holds after the call
 
 -- what a call answers, and the state after it
 pub record Outcome : Type 0 where

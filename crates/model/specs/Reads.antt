@@ -4,9 +4,11 @@ use mathlib.Core.List.{List, [], _∷_}
 use mathlib.Core.Bool.{Bool, true, false, cond, _||_}
 use mathlib.Core.Option.{Option, none, some}
 use lib.Dec.{eqb, ltb}
+use lib.ListN.{replicate}
 use Rattle.images.specs.declared.Timer.{Timer}
 use Rattle.images.specs.declared.Dpc.{Dpc}
 use Rattle.images.specs.Place.{overlaps, timerSize, dpcSize}
+use Rattle.images.specs.Image.{timerImage, dpcImage}
 use Rattle.model.specs.Lists.{nth, firstOf, countOf, present, given}
 use Rattle.model.specs.State.{State, Dispatcher, Thread, Mutex}
 use Rattle.model.specs.Threads.{isThread, threadOf, statusOf, waitOf}
@@ -14,7 +16,7 @@ use Rattle.model.specs.Waits.{mutexAt, eventAt, timerAt, timersOf, event
 use Rattle.model.specs.Dpcs.{dpcAt, activeDpc}
 use Rattle.model.specs.Timers.{most}
 use Rattle.model.specs.Refusal.{ownerRefusal, eventReleaseRefusal, unknownTimer, unknownDpc, timerImageRefusal, dpcImageRefusal, timerReleaseRefusal}
-use Rattle.model.specs.Answer.{Answer, Done, None, ThreadNumber, Flag, Number, ThreadIs, ObjectIs, EventIs, TimerIs, DpcIs, PolicyIs, CountersAre, TimerImageIs, DpcImageIs}
+use Rattle.model.specs.Answer.{Answer, Done, None, ThreadNumber, Flag, Number, ThreadIs, ObjectIs, EventIs, TimerIs, DpcIs, PolicyIs, CountersAre, ImageIs}
 use Rattle.model.specs.Call.{Read}
 use Rattle.model.specs.Call as call
 
@@ -101,6 +103,18 @@ headOf table (a ∷ l) = dpcAt table a
 unfoldable pub nextDpc : State → Option Dpc
 nextDpc s = cond (present (activeDpc (s .dpcs .table))) none (headOf (s .dpcs .table) (s .dpcs .queue))
 
+-- an output of a length: of outputs the log is told no more
+abbrev pub blank : ℕ → List ℕ
+blank n = replicate n 0
+
+-- "Image offsets come from a table with a row per architecture": the image's size, and the image at the head of the output
+abbrev pub timerImageAnswer : ℕ → Timer → Answer
+timerImageAnswer n t = ImageIs (timerSize (t .architecture)) (timerImage t (blank n))
+
+-- the same for a DPC
+abbrev pub dpcImageAnswer : ℕ → Dpc → Answer
+dpcImageAnswer n d = ImageIs (dpcSize (d .architecture)) (dpcImage d (blank n))
+
 -- what a read answers
 unfoldable pub readAnswer : Read → State → Answer
 readAnswer call.Current s = numberOrNone (s .dispatcher .current)
@@ -117,8 +131,8 @@ readAnswer (call.TimerAt address) s = given (timerAt (s .dispatcher .objects) ad
 readAnswer (call.DpcAt address) s = given (dpcAt (s .dpcs .table) address) None DpcIs
 readAnswer (call.Timers position) s = given (nth (timersOf (s .dispatcher .objects)) position) None TimerIs
 readAnswer (call.Dpcs position) s = given (nth (s .dpcs .table) position) None DpcIs
-readAnswer (call.TimerImage address out) s = given (timerAt (s .dispatcher .objects) address) None TimerImageIs
-readAnswer (call.DpcImage address out) s = given (dpcAt (s .dpcs .table) address) None DpcImageIs
+readAnswer (call.TimerImage address out) s = given (timerAt (s .dispatcher .objects) address) None (timerImageAnswer out)
+readAnswer (call.DpcImage address out) s = given (dpcAt (s .dpcs .table) address) None (dpcImageAnswer out)
 readAnswer call.TimerInitializations s = Number (s .timerInitializations)
 readAnswer call.DpcInitializations s = Number (s .dpcInitializations)
 readAnswer (call.TimerReadOverlap address size) s = Flag (timerReadOverlap s address size)

@@ -9,7 +9,7 @@ use Rattle.arch.specs.declared.Architecture.the-variants.{X64}
 use Rattle.images.specs.declared.TimerBacking.the-variants.{Image}
 use Rattle.clock.specs.Samples.{p7, p8}
 use Rattle.model.specs.State.{State}
-use Rattle.model.specs.Answer.{Answer, Refused, Done, None, ThreadNumber, Flag, Number, Satisfied, Timeout, Blocked, Run, Deadlocked, Finished, ThreadIs, ObjectIs, EventIs, TimerIs, DpcIs, WorkIs, PolicyIs, CountersAre, TimerImageIs, DpcImageIs}
+use Rattle.model.specs.Answer.{Answer, Refused, Done, None, ThreadNumber, Flag, Number, Satisfied, Timeout, Blocked, Run, Deadlocked, Finished, ThreadIs, ObjectIs, EventIs, TimerIs, DpcIs, WorkIs, PolicyIs, CountersAre, ImageIs}
 use Rattle.model.specs.Answer as answer
 use Rattle.model.specs.Call.{Call, Open, CreateThread, InitializeEvent, Wait, DelayUntil, YieldCurrent, AdvanceTo, Dispatch, SetEvent, InitializeTimer, InitializeDpc, SetTimer, SetTimerSigned, CancelTimer, ConfigureDpcDispatch, Reads, TimerAt}
 use Rattle.model.specs.Step.{step, after, answers, opened}
@@ -38,8 +38,7 @@ told (DpcIs d) = (0, 0)
 told (WorkIs w) = (0, 0)
 told (PolicyIs p) = (0, 0)
 told (CountersAre c) = (0, 0)
-told (TimerImageIs t) = (0, 0)
-told (DpcImageIs d) = (0, 0)
+told (ImageIs size bytes) = (0, 0)
 
 -- the answer is of that sort, with that number
 unfoldable pub isTold : ℕ → ℕ → Answer → Bool
