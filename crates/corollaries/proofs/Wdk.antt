@@ -1,23 +1,21 @@
 -- What Microsoft's pages report holds of the code's answers, for calls that are not refused.
 use Prim.Native.Nat.{ℕ}
 use mathlib.Core.List.{List}
-use mathlib.Core.Bool.{Bool, true, false, not, _&&_}
+use mathlib.Core.Bool.{Bool, false, not, _&&_}
 use mathlib.Core.Option.{Option}
 use mathlib.Core.Path.{_≡_, sym, ap, _∙_, subst}
 use lib.Dec.{ltb}
 use lib.IntN.{ℤ}
 use lib.ListN.{length}
 use Rattle.calls.specs.Run.{answered}
-use Rattle.model.specs.Lists.{Mem}
-use Rattle.model.specs.State.{State, Named}
-use Rattle.model.specs.Waits.{isMet, reached}
+use Rattle.model.specs.State.{State}
 use Rattle.model.specs.Timers.{most}
 use Rattle.model.specs.Refusal.{openRefusal, pairs, isNegative, signedDue, setSignedRefusal}
-use Rattle.model.specs.Answer.{Answer, Outcome, Flag, Satisfied, Timeout, Blocked}
+use Rattle.model.specs.Answer.{Answer, Outcome, Flag}
 use Rattle.model.specs.Call.{Call, SetEvent, SetTimer, SetTimerSigned, CancelTimer, InsertQueueDpc, RemoveQueueDpc, Wait}
 use Rattle.model.specs.Step.{step, refusal, effect}
 use Rattle.model.specs.Fits.{Fits}
-use Rattle.model.specs.Wdk.{wasSignaled, inTimerQueue, inDpcQueue, signaledNow, WaitAny, WaitAll}
+use Rattle.model.specs.Wdk.{wasSignaled, inTimerQueue, inDpcQueue, WaitReports}
 use Rattle.model.proofs.RowLaws.{passes}
 use Rattle.model.proofs.WdkLaws as wdk
 use Rattle.model.proofs.WdkLaws.{InsertReports, step-is}
@@ -83,40 +81,10 @@ module _ (w : List ℕ) (p t o d : ℕ) (calls : List Call) (accepted : openRefu
       let r = wdk.remove-dpc-reports log (valid w p t o d calls accepted proper) address (passed-by w p t o d calls accepted proper (RemoveQueueDpc address) fit tt e) in
       (next w p t o d calls accepted proper (RemoveQueueDpc address) fit tt .answers ∙ r .0, r .1)
 
-  -- ---- KeWaitForMultipleObjects
-
-  -- WaitAny, some object signaled: the lowest index of those that are, which alone is taken
-  pub wait-any : (l : List ℕ) (deadline : Option ℕ) (irql : ℕ) → Fits (Wait l false deadline irql) → isRefused (answered words (Wait l false deadline irql)) ≡ false
-      → (m : Named) → Mem m (pairs l) → signaledNow log m ≡ true
-      → (i : ℕ) × (answered words (Wait l false deadline irql) ≡ Satisfied i) × WaitAny log (step (Wait l false deadline irql) log .state) (log .dispatcher .current) (pairs l) i
-  wait-any l deadline irql fit e m a z =
-      let c = Wait l false deadline irql in
-      let r = wdk.wait-any-reports log l deadline irql (passed-by w p t o d calls accepted proper c fit tt e) m a z in
-      (r .0, next w p t o d calls accepted proper c fit tt .answers ∙ r .1, r .2)
-
-  -- WaitAll, every object signaled: all are taken together
-  pub wait-all : (l : List ℕ) (deadline : Option ℕ) (irql : ℕ) → Fits (Wait l true deadline irql) → isRefused (answered words (Wait l true deadline irql)) ≡ false
-      → ((n : Named) → Mem n (pairs l) → signaledNow log n ≡ true)
-      → (answered words (Wait l true deadline irql) ≡ Satisfied 0) × WaitAll log (step (Wait l true deadline irql) log .state) (log .dispatcher .current) (pairs l)
-  wait-all l deadline irql fit e h =
-      let c = Wait l true deadline irql in
-      let r = wdk.wait-all-reports log l deadline irql (passed-by w p t o d calls accepted proper c fit tt e) h in
-      (next w p t o d calls accepted proper c fit tt .answers ∙ r .0, r .1)
-
-  -- nothing satisfies it and its timeout is zero or reached: timeout, and nothing is taken
-  pub wait-timeout : (l : List ℕ) (all : Bool) (deadline : Option ℕ) (irql : ℕ) → Fits (Wait l all deadline irql) → isRefused (answered words (Wait l all deadline irql)) ≡ false
-      → isMet (log .dispatcher) (pairs l) all ≡ false → reached deadline (log .now) ≡ true
-      → (answered words (Wait l all deadline irql) ≡ Timeout) × (step (Wait l all deadline irql) log .state .dispatcher .objects ≡ log .dispatcher .objects)
-  wait-timeout l all deadline irql fit e m z =
+  -- KeWaitForMultipleObjects: satisfied, timed out or blocked, and what is taken, of every wait
+  pub wait : (l : List ℕ) (all : Bool) (deadline : Option ℕ) (irql : ℕ) → Fits (Wait l all deadline irql) → isRefused (answered words (Wait l all deadline irql)) ≡ false
+      → WaitReports log (step (Wait l all deadline irql) log .state) (log .dispatcher .current) (pairs l) all deadline (answered words (Wait l all deadline irql))
+  wait l all deadline irql fit e =
       let c = Wait l all deadline irql in
-      let r = wdk.wait-times-out log l all deadline irql (passed-by w p t o d calls accepted proper c fit tt e) m z in
-      (next w p t o d calls accepted proper c fit tt .answers ∙ r .0, r .1)
-
-  -- nothing satisfies it and no timeout is reached: the thread blocks, and nothing is taken
-  pub wait-blocks : (l : List ℕ) (all : Bool) (deadline : Option ℕ) (irql : ℕ) → Fits (Wait l all deadline irql) → isRefused (answered words (Wait l all deadline irql)) ≡ false
-      → isMet (log .dispatcher) (pairs l) all ≡ false → reached deadline (log .now) ≡ false
-      → (answered words (Wait l all deadline irql) ≡ Blocked) × (step (Wait l all deadline irql) log .state .dispatcher .objects ≡ log .dispatcher .objects)
-  wait-blocks l all deadline irql fit e m z =
-      let c = Wait l all deadline irql in
-      let r = wdk.wait-blocks log l all deadline irql (passed-by w p t o d calls accepted proper c fit tt e) m z in
-      (next w p t o d calls accepted proper c fit tt .answers ∙ r .0, r .1)
+      subst (WaitReports log (step c log .state) (log .dispatcher .current) (pairs l) all deadline) (sym (next w p t o d calls accepted proper c fit tt .answers))
+      (wdk.wait-reports log l all deadline irql (passed-by w p t o d calls accepted proper c fit tt e))

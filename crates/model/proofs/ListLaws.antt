@@ -9,7 +9,7 @@ use native.Mathlib.Decide.{ℕ-discrete}
 use borrow.Author.Tests.{eq-eqb, ne-eqb, eqb-true}
 use lib.Dec.{eqb}
 use lib.ListN.{length}
-use Rattle.model.specs.Lists.{keep, any, without, Mem, Distinct, largest, member, first}
+use Rattle.model.specs.Lists.{keep, any, every, without, Mem, Distinct, largest, member, first}
 use Rattle.model.specs.Valid.{RisingBy}
 
 pub not-both : true ≡ false → ⊥
@@ -91,6 +91,17 @@ module _ {A : Type 0} where
           later : (b : Bool) → any g ys ≡ true → cond b true (any g ys) ≡ true
           later true e = refl
           later false e = e
+
+  -- ---- `every`
+
+  pub every-at : (f : A → Bool) (l : List A) → every f l ≡ true → (x : A) → Mem x l → f x ≡ true
+  every-at f [] e x m = absurd m
+  every-at f (y ∷ ys) e x m = go (f y) refl e (λ z. every-at f ys z x) m
+    where
+      go : (b : Bool) → f y ≡ b → cond b (every f ys) false ≡ true → (every f ys ≡ true → Mem x ys → f x ≡ true) → (x ≡ y) ⊎ Mem x ys → f x ≡ true
+      go true q z ih (inl p) = ap f p ∙ q
+      go true q z ih (inr n) = ih z n
+      go false q z ih n = absurd (not-both (sym z))
 
   -- ---- in a list
 

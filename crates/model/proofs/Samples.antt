@@ -1,4 +1,4 @@
--- P1 to P9 together, the example script, and the readings to rule out: computed.
+-- P1 to P9 together, the example script, the readings to rule out, and waits for "all": computed.
 use mathlib.Core.List.{[], _∷_}
 use mathlib.Core.Bool.{true}
 use mathlib.Core.Path.{_≡_, refl}
@@ -15,7 +15,7 @@ use Rattle.model.specs.Reads as reads
 use Rattle.model.specs.Step.{answers, refusal, effect, step}
 use Rattle.model.specs.Step as does
 use Rattle.model.specs.Samples as sample
-use Rattle.model.specs.Samples.{samples, script, printed, readings, ruled, p1, p2, p3, p4, p5, p6, p9}
+use Rattle.model.specs.Samples.{samples, script, printed, readings, ruled, allWaits, everyOrNone, p1, p2, p3, p4, p5, p6, p9}
 
 pub all-samples : samples ≡ (true ∷ true ∷ true ∷ true ∷ true ∷ true ∷ true ∷ true ∷ true ∷ [])
 unfolding samples p1 p2 p3 p4 p5 p6 p9 sample.told sample.isTold sample.refuses sample.timesOut sample.blocksAt sample.dueIs sample.begun sample.withTimer sample.periodic sample.events sample.listOf clock.p7 clock.of clock.stands clock.iterate started created inRange offsetInRange inForm instruction whenInForm instructed flushes flushed flushTicks advances moved clock.p8 clock.atLimit clock.reads clock.refuses qpc readInForm step refusal effect threads.becomes threads.woken threads.blocked waits.wakeOne waits.wake waits.timeOut timers.newTimer timers.armed timers.nextDue timers.expired timers.horizonRefusal timers.expiryRefusal timers.dpcsAfter timers.expireOne row.collides row.isFull row.eventRefusal row.badList row.sequenceRefusal row.waitRefusal row.delayRefusal row.advanceRefusal row.isOverlapped row.placeRefusal locationRefusal isOutside row.timerRefusal row.armRefusal row.setRefusal row.setSignedRefusal row.unknownTimer reads.readRefusal reads.readAnswer does.opened does.granted does.timedOut does.blocks does.waited does.delayed does.advanced does.timerInitialized does.timerSet
@@ -30,3 +30,8 @@ example-script s = refl
 pub all-readings : readings ≡ ruled
 unfolding readings ruled sample.begun sample.grantedAt2 sample.wakesFirst sample.cancelsQueued locationRefusal isOutside overlaps step refusal effect threads.becomes threads.created threads.woken threads.blocked threads.ran waits.wakeOne waits.wake waits.timeOut timers.newTimer timers.armed timers.nextDue timers.expired timers.horizonRefusal timers.expiryRefusal timers.dpcsAfter timers.expireOne dpcs.accepted dpcs.withdrawn row.notPriority row.createRefusal row.collides row.isFull row.eventRefusal row.badList row.sequenceRefusal row.waitRefusal row.advanceRefusal row.isOverlapped row.placeRefusal row.timerRefusal row.dpcRefusal row.armRefusal row.setRefusal row.unknownTimer row.isUntouched row.configureRefusal row.dispatchRefusal does.opened does.granted does.timedOut does.blocks does.waited does.advanced does.counts does.idleAnswer does.dispatched does.timerInitialized does.dpcInitialized does.timerSet does.cancelsWork does.timerCancelled does.configured
 all-readings = refl
+
+-- a wait for "all" takes every one or none
+pub all-waits : allWaits ≡ everyOrNone
+unfolding allWaits everyOrNone sample.begun sample.bothWaited sample.eventIs step refusal effect threads.becomes threads.blocked row.collides row.isFull row.eventRefusal row.badList row.sequenceRefusal row.waitRefusal reads.readRefusal reads.readAnswer does.opened does.granted does.blocks does.waited
+all-waits = refl

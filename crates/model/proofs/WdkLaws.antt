@@ -3,7 +3,7 @@ use Prim.Native.Nat.{ℕ, zero, suc, _<_}
 use mathlib.Core.List.{List, [], _∷_}
 use mathlib.Core.Bool.{Bool, true, false, cond, not}
 use mathlib.Core.Option.{Option, none, some}
-use mathlib.Core.Path.{_≡_, refl, sym, ap, _∙_, subst}
+use mathlib.Core.Path.{_≡_, refl, sym, ap, ap₂, _∙_, subst}
 use mathlib.Core.Logic.{_⊎_, inl, inr}
 use native.Mathlib.Omega.{arith}
 use native.Mathlib.Decide.{ℕ-discrete}
@@ -13,7 +13,7 @@ use lib.IntN.{ℤ}
 use lib.ListN.{getD, length}
 use Rattle.images.specs.declared.Timer.{Timer}
 use Rattle.images.specs.declared.DpcOrigin.the-variants as origin
-use Rattle.model.specs.Lists.{Mem, any, nth, present, given, isEmpty}
+use Rattle.model.specs.Lists.{Mem, any, every, nth, present, given, isEmpty}
 use Rattle.model.specs.State.{State, Dispatcher, Named, Event, Object, mutex, event, timer}
 use Rattle.model.specs.Threads.{isThread, hasExited, statusOf, becomes, blocked, withObjects}
 use Rattle.model.specs.Waits.{keyOf, kindOf, objectAt, eventAt, timerAt, ofKind, namedIn, isFree, isAvailable, sameNamed, listed, putObject, takenBy, take, takeEvery, everyAvailable, firstAvailable, noObject, isMet, reached, signaledAs, wake}
@@ -21,11 +21,11 @@ use Rattle.model.specs.Dpcs.{dpcAt, phaseAt, isQueued, isBusy, accepted,
 use Rattle.model.specs.Timers.{most, isNamedByOther, armed, cancelled}
 use Rattle.model.specs.Refusal.{pairs, hasDuplicate, badList, waitRefusal, signalRefusal, isNegative, armRefusal, setRefusal, formerBusy, unknownTimer}
 use Rattle.model.specs.Step.{refusal, effect, step, eventSet, timerSet, timerCancelled, dpcInserted, dpcRemoved, waited, granted, timedOut, blocks, periodOf, cancelsWork, withDispatcher, withDpcs, withTable}
-use Rattle.model.specs.Answer.{Answer, gives, Flag, Refused, Satisfied, Timeout, Blocked, Done, Outcome}
+use Rattle.model.specs.Answer.{Answer, gives, Flag, Refused, Done, Outcome}
 use Rattle.model.specs.Call.{Call, SetEvent, SetTimer, CancelTimer, InsertQueueDpc, RemoveQueueDpc, Wait}
 use Rattle.model.specs.Valid.{Valid}
-use Rattle.model.specs.Wdk.{wasSignaled, inTimerQueue, inDpcQueue, isSignaled, signaledNow, afterWait, TakenBy, WaitAny, WaitAll}
-use Rattle.model.proofs.ListLaws.{not-both, last-own, out-own, neither, any-false, any-at}
+use Rattle.model.specs.Wdk.{wasSignaled, inTimerQueue, inDpcQueue, isSignaled, signaledNow, afterWait, TakenBy, isSatisfied, timeoutOver, WaitReports}
+use Rattle.model.proofs.ListLaws.{not-both, last-own, out-own, neither, any-false, every-at}
 use Rattle.model.proofs.TableLaws.{some-same, none-some, found, find-put-own, find-put-other}
 use Rattle.model.proofs.RowLaws.{passes, holds, there, same-named}
 
@@ -163,14 +163,18 @@ first-available d (n ∷ ns) e = go (isAvailable d n) refl e (first-available d 
         lower h zero m k f = ap (isAvailable d) (sym (some-same n m f)) ∙ q
         lower h (suc j) m k f = h j m (omega arith) f
 
-every-available : (d : Dispatcher) (ns : List Named) → everyAvailable d ns ≡ true → (n : Named) → Mem n ns → isAvailable d n ≡ true
-every-available d [] e n m = absurd m
-every-available d (x ∷ xs) e n m = go (isAvailable d x) refl e m (every-available d xs)
+-- the page's test is the log's
+satisfied-is : (s : State) (ns : List Named) (all : Bool) → isSatisfied s ns all ≡ isMet (s .dispatcher) ns all
+satisfied-is s ns true = each ns
   where
-    go : (b : Bool) → isAvailable d x ≡ b → cond b (everyAvailable d xs) false ≡ true → (n ≡ x) ⊎ Mem n xs → (everyAvailable d xs ≡ true → (y : Named) → Mem y xs → isAvailable d y ≡ true) → isAvailable d n ≡ true
-    go true q z (inl p) ih = ap (isAvailable d) p ∙ q
-    go true q z (inr p) ih = ih z n p
-    go false q z p ih = absurd (not-both (sym z))
+    each : (ns : List Named) → every (signaledNow s) ns ≡ everyAvailable (s .dispatcher) ns
+    each [] = refl
+    each (n ∷ ns) = ap₂ (λ (a b : Bool). cond a b false) (signaled-is s n) (each ns)
+satisfied-is s ns false = one ns
+  where
+    one : (ns : List Named) → any (signaledNow s) ns ≡ any (isAvailable (s .dispatcher)) ns
+    one [] = refl
+    one (n ∷ ns) = ap₂ (λ (a b : Bool). cond a true b) (signaled-is s n) (one ns)
 
 -- ---- taking
 
@@ -281,66 +285,90 @@ module _ (s : State) (l : List ℕ) (all : Bool) (deadline : Option ℕ) (irql :
       let g = neither (ltb 64 (length (pairs l))) _ (c .1) in
       neither (hasDuplicate (pairs l)) _ (g .1) .0
 
-  met-is : isMet d₀ (pairs l) all ≡ true → step (Wait l all deadline irql) s ≡ granted s (pairs l) all
+  -- the page's test decides whether it is granted
+  decided : step (Wait l all deadline irql) s ≡ cond (isSatisfied s (pairs l) all) (granted s (pairs l) all) (cond (reached deadline (s .now)) (timedOut s) (blocks s (pairs l) all deadline))
   unfolding waited
-  met-is m = wait-is ∙ ap (λ (b : Bool). cond b (granted s (pairs l) all) (cond (reached deadline (s .now)) (timedOut s) (blocks s (pairs l) all deadline))) m
+  decided = wait-is ∙ ap (λ (b : Bool). cond b (granted s (pairs l) all) (cond (reached deadline (s .now)) (timedOut s) (blocks s (pairs l) all deadline))) (sym (satisfied-is s (pairs l) all))
 
-  -- nothing satisfies it, and a zero or reached timeout: timeout, and nothing is taken
-  pub wait-times-out : isMet d₀ (pairs l) all ≡ false → reached deadline (s .now) ≡ true
-      → (step (Wait l all deadline irql) s .answer ≡ Timeout) × (step (Wait l all deadline irql) s .state .dispatcher .objects ≡ d₀ .objects)
-  unfolding waited timedOut
-  wait-times-out m r =
-      let z : step (Wait l all deadline irql) s ≡ timedOut s = wait-is ∙ ap (λ (b : Bool). cond b (granted s (pairs l) all) (cond (reached deadline (s .now)) (timedOut s) (blocks s (pairs l) all deadline))) m
-      ∙ ap (λ (b : Bool). cond b (timedOut s) (blocks s (pairs l) all deadline)) r in
-      (ap (λ (o : Outcome). o .answer) z, ap (λ (o : Outcome). o .state .dispatcher .objects) z)
+over-is : (s : State) (deadline : Option ℕ) → timeoutOver s deadline ≡ reached deadline (s .now)
+over-is s none = refl
+over-is s (some t) = refl
 
-  -- nothing satisfies it, and no timeout is reached: the thread blocks, and nothing is taken
-  pub wait-blocks : isMet d₀ (pairs l) all ≡ false → reached deadline (s .now) ≡ false
-      → (step (Wait l all deadline irql) s .answer ≡ Blocked) × (step (Wait l all deadline irql) s .state .dispatcher .objects ≡ d₀ .objects)
-  unfolding waited blocks blocked becomes
-  wait-blocks m r =
-      let z : step (Wait l all deadline irql) s ≡ blocks s (pairs l) all deadline = wait-is ∙ ap (λ (b : Bool). cond b (granted s (pairs l) all) (cond (reached deadline (s .now)) (timedOut s) (blocks s (pairs l) all deadline))) m
-      ∙ ap (λ (b : Bool). cond b (timedOut s) (blocks s (pairs l) all deadline)) r in
-      (ap (λ (o : Outcome). o .answer) z, ap (λ (o : Outcome). o .state .dispatcher .objects) z)
+module _ (s : State) (ns : List Named) (deadline : Option ℕ) where
+  abbrev d₁ : Dispatcher
+  d₁ = s .dispatcher
 
--- WaitAny: some object is signaled
-pub wait-any-reports : (s : State) (l : List ℕ) (deadline : Option ℕ) (irql : ℕ) → refusal (Wait l false deadline irql) s ≡ 0 → (m : Named) → Mem m (pairs l) → signaledNow s m ≡ true
-    → (i : ℕ) × (step (Wait l false deadline irql) s .answer ≡ Satisfied i) × WaitAny s (step (Wait l false deadline irql) s .state) (s .dispatcher .current) (pairs l) i
-unfolding granted
-wait-any-reports s l deadline irql e m a t =
-    let d = s .dispatcher in
-    let ns = pairs l in
-    let z : any (isAvailable d) ns ≡ true = any-at (isAvailable d) m ns a (sym (signaled-is s m) ∙ t) in
-    let f = first-available d ns z in
-    let n = getD ns (firstAvailable d ns) noObject in (
-      firstAvailable d ns,
-      ap (λ (o : Outcome). o .answer) (met-is s l false deadline irql e z),
-      subst (λ (o : Outcome). WaitAny s (o .state) (d .current) ns (firstAvailable d ns)) (sym (met-is s l false deadline irql e z))
-          (record {
+  abbrev Reports : Bool → Outcome → Type 0
+  Reports all o = WaitReports s (o .state) (d₁ .current) ns all deadline (o .answer)
+
+  -- WaitAny, granted: the lowest that is signaled is taken
+  any-granted : isSatisfied s ns false ≡ true → Reports false (granted s ns false)
+  unfolding granted
+  any-granted t =
+      let f = first-available d₁ ns (sym (satisfied-is s ns false) ∙ t) in
+      let n = getD ns (firstAvailable d₁ ns) noObject in
+      record {
+        one = λ p q. (
+          firstAvailable d₁ ns,
+          refl,
+          record {
             which = n;
-            lowest = record { at = f .0; signaled = signaled-is s n ∙ f .1; lowest = λ j y h q. signaled-is s y ∙ f .2 j y h q };
-            taken = takes-taken (d .current) (d .objects) (take (d .current) (d .objects) n) n (take-own (d .current) (d .objects) n);
-            alone = λ k h. take-other (d .current) (d .objects) n k h;
-          }),
-    )
+            lowest = record { at = f .0; signaled = signaled-is s n ∙ f .1; lowest = λ j y h r. signaled-is s y ∙ f .2 j y h r };
+            taken = takes-taken (d₁ .current) (d₁ .objects) (take (d₁ .current) (d₁ .objects) n) n (take-own (d₁ .current) (d₁ .objects) n);
+            alone = λ k h. take-other (d₁ .current) (d₁ .objects) n k h;
+          },
+        );
+        each = λ p q. absurd (not-both (sym p));
+        over = λ p q. absurd (not-both (sym t ∙ p));
+        waits = λ p q. absurd (not-both (sym t ∙ p));
+        untaken = λ p. absurd (not-both (sym t ∙ p));
+      }
 
--- WaitAll: every object is signaled
-pub wait-all-reports : (s : State) (l : List ℕ) (deadline : Option ℕ) (irql : ℕ) → refusal (Wait l true deadline irql) s ≡ 0 → ((n : Named) → Mem n (pairs l) → signaledNow s n ≡ true)
-    → (step (Wait l true deadline irql) s .answer ≡ Satisfied 0) × WaitAll s (step (Wait l true deadline irql) s .state) (s .dispatcher .current) (pairs l)
-unfolding granted
-wait-all-reports s l deadline irql e h =
-    let d = s .dispatcher in
-    let ns = pairs l in
-    let z : everyAvailable d ns ≡ true = every ns (λ n m. sym (signaled-is s n) ∙ h n m) in (
-      ap (λ (o : Outcome). o .answer) (met-is s l true deadline irql e z),
-      subst (λ (o : Outcome). WaitAll s (o .state) (d .current) ns) (sym (met-is s l true deadline irql e z))
-          (record {
-            every = h;
-            taken = λ n m. takes-taken (d .current) (d .objects) (takeEvery (d .current) (d .objects) ns) n (every-taken (d .current) (d .objects) ns (no-duplicate s l true deadline irql e) n m);
-            others = λ k q. every-other (d .current) (d .objects) ns k q;
-          }),
-    )
+  -- WaitAll, granted: all are taken
+  all-granted : hasDuplicate ns ≡ false → isSatisfied s ns true ≡ true → Reports true (granted s ns true)
+  unfolding granted
+  all-granted u t = record {
+    one = λ p q. absurd (not-both p);
+    each = λ p q. (
+      refl,
+      record {
+        every = every-at (signaledNow s) ns t;
+        taken = λ n m. takes-taken (d₁ .current) (d₁ .objects) (takeEvery (d₁ .current) (d₁ .objects) ns) n (every-taken (d₁ .current) (d₁ .objects) ns u n m);
+        others = λ k h. every-other (d₁ .current) (d₁ .objects) ns k h;
+      },
+    );
+    over = λ p q. absurd (not-both (sym t ∙ p));
+    waits = λ p q. absurd (not-both (sym t ∙ p));
+    untaken = λ p. absurd (not-both (sym t ∙ p));
+  }
+
+  met : (all : Bool) → hasDuplicate ns ≡ false → isSatisfied s ns all ≡ true → Reports all (granted s ns all)
+  met false u t = any-granted t
+  met true u t = all-granted u t
+
+  -- not granted: nothing is taken
+  unmet : (all r : Bool) → timeoutOver s deadline ≡ r → isSatisfied s ns all ≡ false → Reports all (cond r (timedOut s) (blocks s ns all deadline))
+  unfolding timedOut blocks blocked becomes
+  unmet all true r t = record {
+    one = λ p q. absurd (not-both (sym q ∙ t));
+    each = λ p q. absurd (not-both (sym q ∙ t));
+    over = λ p q. refl;
+    waits = λ p q. absurd (not-both (sym r ∙ q));
+    untaken = λ p. refl;
+  }
+  unmet all false r t = record {
+    one = λ p q. absurd (not-both (sym q ∙ t));
+    each = λ p q. absurd (not-both (sym q ∙ t));
+    over = λ p q. absurd (not-both (sym q ∙ r));
+    waits = λ p q. refl;
+    untaken = λ p. refl;
+  }
+
+-- every wait that is not refused
+pub wait-reports : (s : State) (l : List ℕ) (all : Bool) (deadline : Option ℕ) (irql : ℕ) → refusal (Wait l all deadline irql) s ≡ 0
+    → WaitReports s (step (Wait l all deadline irql) s .state) (s .dispatcher .current) (pairs l) all deadline (step (Wait l all deadline irql) s .answer)
+wait-reports s l all deadline irql e = subst (Reports s (pairs l) deadline all) (sym (decided s l all deadline irql e)) (go (isSatisfied s (pairs l) all) refl)
   where
-    every : (ns : List Named) → ((n : Named) → Mem n ns → isAvailable (s .dispatcher) n ≡ true) → everyAvailable (s .dispatcher) ns ≡ true
-    every [] k = refl
-    every (n ∷ ns) k = ap (λ (b : Bool). cond b (everyAvailable (s .dispatcher) ns) false) (k n (inl refl)) ∙ every ns (λ x m. k x (inr m))
+    go : (b : Bool) → isSatisfied s (pairs l) all ≡ b → Reports s (pairs l) deadline all (cond b (granted s (pairs l) all) (cond (reached deadline (s .now)) (timedOut s) (blocks s (pairs l) all deadline)))
+    go true t = met s (pairs l) deadline all (no-duplicate s l all deadline irql e) t
+    go false t = unmet s (pairs l) deadline all (reached deadline (s .now)) (over-is s deadline) t

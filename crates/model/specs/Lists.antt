@@ -18,6 +18,11 @@ module _ {A : Type 0} where
   any f [] = false
   any f (x ∷ xs) = cond (f x) true (any f xs)
 
+  -- whether each of them passes the test
+  abbrev pub every : (A → Bool) → List A → Bool
+  every f [] = true
+  every f (x ∷ xs) = cond (f x) (every f xs) false
+
   -- how many of them pass the test
   abbrev pub countOf : (A → Bool) → List A → ℕ
   countOf f [] = 0

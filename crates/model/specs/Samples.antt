@@ -1,4 +1,4 @@
--- "Bench samples" of document 01 as one list of tests; its example script, and its readings to rule out, as lists of calls.
+-- "Bench samples" of document 01 as one list of tests; its example script, its readings to rule out, and waits for "all", as lists of calls.
 use Prim.Native.Nat.{ℕ, zero, suc, _+_, _-_, _*_, _^_}
 use mathlib.Core.List.{List, [], _∷_, _++_}
 use mathlib.Core.Bool.{Bool, true, false, _&&_}
@@ -11,7 +11,7 @@ use Rattle.clock.specs.Samples.{p7, p8}
 use Rattle.model.specs.State.{State}
 use Rattle.model.specs.Answer.{Answer, Refused, Done, None, ThreadNumber, Flag, Number, Satisfied, Timeout, Blocked, Run, Deadlocked, Finished, ThreadIs, ObjectIs, EventIs, TimerIs, DpcIs, WorkIs, PolicyIs, CountersAre, ImageIs}
 use Rattle.model.specs.Answer as answer
-use Rattle.model.specs.Call.{Call, Open, CreateThread, InitializeEvent, Wait, DelayUntil, YieldCurrent, AdvanceTo, Dispatch, SetEvent, InitializeTimer, InitializeDpc, SetTimer, SetTimerSigned, CancelTimer, ConfigureDpcDispatch, Reads, TimerAt}
+use Rattle.model.specs.Call.{Call, Open, CreateThread, InitializeEvent, Wait, DelayUntil, YieldCurrent, AdvanceTo, Dispatch, SetEvent, InitializeTimer, InitializeDpc, SetTimer, SetTimerSigned, CancelTimer, ConfigureDpcDispatch, Reads, EventState, TimerAt}
 use Rattle.model.specs.Step.{step, after, answers, opened}
 
 -- ---- tests of an answer, by a code that tells the four apart that the samples ask for: refused, timed out, blocked, a timer's due
@@ -167,4 +167,30 @@ ruled =
     (Done ∷ Satisfied 0 ∷ [])
     ∷ (Done ∷ ThreadNumber 2 ∷ Flag false ∷ Blocked ∷ Run 2 ∷ Done ∷ Timeout ∷ [])
     ∷ (Done ∷ Done ∷ Done ∷ Flag false ∷ Done ∷ Flag true ∷ [])
+    ∷ []
+
+-- ---- "'all' takes every one or none and answers 0"
+
+-- two auto-reset events, the first signaled; a wait for both; what they are then
+unfoldable pub bothWaited : Bool → List Call
+bothWaited second =
+    InitializeEvent 4096 false true
+    ∷ InitializeEvent 8192 false second
+    ∷ Wait (1 ∷ 4096 ∷ 1 ∷ 8192 ∷ []) true none 0
+    ∷ Reads (EventState 4096)
+    ∷ Reads (EventState 8192)
+    ∷ []
+
+-- an auto-reset event
+unfoldable pub eventIs : ℕ → Bool → Answer
+eventIs key signaled = EventIs (record { key = key; manual = false; signaled = signaled })
+
+-- the second not signaled, and signaled
+unfoldable pub allWaits : List (List Answer)
+allWaits = answers (bothWaited false) begun ∷ answers (bothWaited true) begun ∷ []
+
+unfoldable pub everyOrNone : List (List Answer)
+everyOrNone =
+    (Done ∷ Done ∷ Blocked ∷ eventIs 4096 true ∷ eventIs 8192 false ∷ [])
+    ∷ (Done ∷ Done ∷ Satisfied 0 ∷ eventIs 4096 false ∷ eventIs 8192 false ∷ [])
     ∷ []

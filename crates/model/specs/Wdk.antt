@@ -2,14 +2,15 @@
 use Prim.Native.Nat.{ℕ, _<_}
 use mathlib.Core.List.{List}
 use mathlib.Core.Bool.{Bool, true, false, cond}
-use mathlib.Core.Option.{some}
+use mathlib.Core.Option.{Option, none, some}
 use mathlib.Core.Path.{_≡_}
-use lib.Dec.{eqb}
+use lib.Dec.{eqb, leb}
 use Rattle.images.specs.declared.Timer.{Timer}
-use Rattle.model.specs.Lists.{Mem, member, nth, given}
+use Rattle.model.specs.Lists.{Mem, member, any, every, nth, given}
 use Rattle.model.specs.State.{State, Named, Event, Object, mutex, event, timer}
 use Rattle.model.specs.Threads.{isThread, hasExited, statusOf}
 use Rattle.model.specs.Waits.{objectAt, eventAt, timerAt, namedIn}
+use Rattle.model.specs.Answer.{Answer, Satisfied, Timeout, Blocked}
 
 -- KeSetEvent: whether the event was signaled before
 abbrev pub wasSignaled : State → ℕ → Bool
@@ -83,3 +84,22 @@ pub record WaitAll (before after : State) (id : ℕ) (ns : List Named) : Type 0 
   pub every : (n : Named) → Mem n ns → signaledNow before n ≡ true
   pub taken : (n : Named) → Mem n ns → TakenBy id (before .dispatcher .objects) (after .dispatcher .objects) n
   pub others : (k : ℕ) → ((n : Named) → Mem n ns → k ≡ n .key → ⊥) → objectAt (after .dispatcher .objects) k ≡ objectAt (before .dispatcher .objects) k
+
+-- the listed objects satisfy the wait: for WaitAny one of them is signaled, for WaitAll every one is
+abbrev pub isSatisfied : State → List Named → Bool → Bool
+isSatisfied s ns all = cond all (every (signaledNow s) ns) (any (signaledNow s) ns)
+
+-- the timeout is zero or reached: its end is now or past; a wait without one has no end
+abbrev pub timeoutOver : State → Option ℕ → Bool
+timeoutOver s none = false
+timeoutOver s (some end) = leb end (s .now)
+
+-- what a wait of the thread reports, in every case
+pub record WaitReports (before after : State) (id : ℕ) (ns : List Named) (all : Bool) (timeout : Option ℕ) (answer : Answer) : Type 0 where
+  -- satisfied: WaitAny, and WaitAll
+  pub one : all ≡ false → isSatisfied before ns all ≡ true → (i : ℕ) × (answer ≡ Satisfied i) × WaitAny before after id ns i
+  pub each : all ≡ true → isSatisfied before ns all ≡ true → (answer ≡ Satisfied 0) × WaitAll before after id ns
+  -- not satisfied: "a zero or reached timeout that nothing satisfies: timeout", else the thread waits; nothing is taken
+  pub over : isSatisfied before ns all ≡ false → timeoutOver before timeout ≡ true → answer ≡ Timeout
+  pub waits : isSatisfied before ns all ≡ false → timeoutOver before timeout ≡ false → answer ≡ Blocked
+  pub untaken : isSatisfied before ns all ≡ false → after .dispatcher .objects ≡ before .dispatcher .objects
