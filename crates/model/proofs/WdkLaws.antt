@@ -24,7 +24,7 @@ use Rattle.model.specs.Step.{refusal, effect, step, eventSet, timerSet, 
 use Rattle.model.specs.Answer.{Answer, gives, Flag, Refused, Done, Outcome}
 use Rattle.model.specs.Call.{Call, SetEvent, SetTimer, CancelTimer, InsertQueueDpc, RemoveQueueDpc, Wait}
 use Rattle.model.specs.Valid.{Valid}
-use Rattle.model.specs.Wdk.{wasSignaled, inTimerQueue, inDpcQueue, isSignaled, signaledNow, afterWait, TakenBy, isSatisfied, timeoutOver, WaitReports}
+use Rattle.model.specs.Wdk.{wasSignaled, inTimerQueue, inDpcQueue, isSignaled, signaledNow, afterWait, TakenBy, NamesObject, isSatisfied, timeoutOver, WaitReports}
 use Rattle.model.proofs.ListLaws.{not-both, last-own, out-own, neither, any-false, every-at}
 use Rattle.model.proofs.TableLaws.{some-same, none-some, found, find-put-own, find-put-other}
 use Rattle.model.proofs.RowLaws.{passes, holds, there, same-named}
@@ -186,6 +186,12 @@ kind-found k (some x) o e = go (eqb (kindOf x) k) refl e
     go true q z = (z, ap kindOf (sym (some-same x o z)) ∙ eqb-true (kindOf x) k q)
     go false q z = absurd (none-some o z)
 
+-- no object of the table is a thread
+no-thread-kind : (o : Object) → kindOf o ≡ 3 → ⊥
+no-thread-kind (mutex m) e = omega arith
+no-thread-kind (event x) e = omega arith
+no-thread-kind (timer t) e = omega arith
+
 taken-key : (id : ℕ) (o : Object) → keyOf (takenBy id o) ≡ keyOf o
 taken-key id (mutex m) = refl
 taken-key id (event e) = refl
@@ -219,18 +225,24 @@ module _ (id : ℕ) where
       let k : n .key ≡ keyOf (takenBy id o) = sym (taken-key id o ∙ found keyOf l (n .key) o (f .0) .1) in
       ap (λ (x : List Object). objectAt x (n .key)) (take-is l n o e) ∙ ap (objectAt (putObject (takenBy id o) l)) k ∙ find-put-own keyOf (takenBy id o) l
 
-  take-other : (l : List Object) (n : Named) (k : ℕ) → (k ≡ n .key → ⊥) → objectAt (take id l n) k ≡ objectAt l k
+  take-other : (l : List Object) (n : Named) (k : ℕ) → (NamesObject n k → ⊥) → objectAt (take id l n) k ≡ objectAt l k
   take-other l n k h = go (namedIn l n) refl
     where
       go : (a : Option Object) → namedIn l n ≡ a → objectAt (given a l (λ x. putObject (takenBy id x) l)) k ≡ objectAt l k
       go none e = refl
-      go (some o) e = find-put-other keyOf (takenBy id o) l k (λ z. h (z ∙ taken-key id o ∙ found keyOf l (n .key) o (kind-found (n .kind) (objectAt l (n .key)) o e .0) .1))
+      go (some o) e =
+          let f = kind-found (n .kind) (objectAt l (n .key)) o e in
+          find-put-other keyOf (takenBy id o) l k (λ z. h (z ∙ taken-key id o ∙ found keyOf l (n .key) o (f .0) .1, λ q. no-thread-kind o (f .1 ∙ q)))
+
+  -- one with another key
+  take-elsewhere : (l : List Object) (n : Named) (k : ℕ) → (k ≡ n .key → ⊥) → objectAt (take id l n) k ≡ objectAt l k
+  take-elsewhere l n k h = take-other l n k (λ z. h (z .0))
 
   -- one of another kind at the key: nothing is taken
   take-nothing : (l : List Object) (n : Named) (o : Object) → objectAt l (n .key) ≡ some o → (kindOf o ≡ n .kind → ⊥) → take id l n ≡ l
   take-nothing l n o f h = ap (λ (a : Option Object). given a l (λ x. putObject (takenBy id x) l)) (ap (ofKind (n .kind)) f ∙ ap (λ (b : Bool). cond b (some o) none) (ne-eqb (kindOf o) (n .kind) h))
 
-  every-other : (l : List Object) (ns : List Named) (k : ℕ) → ((n : Named) → Mem n ns → k ≡ n .key → ⊥) → objectAt (takeEvery id l ns) k ≡ objectAt l k
+  every-other : (l : List Object) (ns : List Named) (k : ℕ) → ((n : Named) → Mem n ns → NamesObject n k → ⊥) → objectAt (takeEvery id l ns) k ≡ objectAt l k
   every-other l [] k h = refl
   every-other l (n ∷ ns) k h = every-other (take id l n) ns k (λ m a. h m (inr a)) ∙ take-other l n k (h n (inl refl))
 
@@ -238,7 +250,7 @@ module _ (id : ℕ) where
   stays l [] k p f h = f
   stays l (n ∷ ns) k p f h = stays (take id l n) ns k p (elim (ℕ-discrete k (n .key)) [
     | yes e ↦ ap (λ (x : List Object). objectAt x k) (take-nothing l n p (ap (objectAt l) (sym e) ∙ f) (λ z. h n (inl refl) (sym e) (sym z))) ∙ f
-    | no q ↦ take-other l n k q ∙ f
+    | no q ↦ take-elsewhere l n k q ∙ f
   ]) (λ m a. h m (inr a))
 
   every-taken : (l : List Object) (ns : List Named) → hasDuplicate ns ≡ false → (n : Named) → Mem n ns → Takes id l (takeEvery id l ns) n
@@ -262,7 +274,7 @@ module _ (id : ℕ) where
           let k = kind-found (n .kind) (objectAt l (n .key)) o f in
           ih p o (elim (ℕ-discrete (n .key) (x .key)) [
             | yes q ↦ ap (λ (y : List Object). namedIn y n) (take-nothing l x o (ap (objectAt l) (sym q) ∙ k .0) (λ z. differs n p q (sym (k .1) ∙ z))) ∙ f
-            | no q ↦ ap (ofKind (n .kind)) (take-other l x (n .key) q) ∙ f
+            | no q ↦ ap (ofKind (n .kind)) (take-elsewhere l x (n .key) q) ∙ f
           ])
 
 -- ---- the call
