@@ -11,14 +11,14 @@ use Rattle.calls.specs.Run.{answered}
 use Rattle.model.specs.State.{State}
 use Rattle.model.specs.Timers.{most}
 use Rattle.model.specs.Refusal.{openRefusal, pairs, isNegative, signedDue, setSignedRefusal}
-use Rattle.model.specs.Answer.{Answer, Outcome, Flag}
+use Rattle.model.specs.Answer.{Outcome, Flag}
 use Rattle.model.specs.Call.{Call, SetEvent, SetTimer, SetTimerSigned, CancelTimer, InsertQueueDpc, RemoveQueueDpc, Wait}
 use Rattle.model.specs.Step.{step, refusal, effect}
 use Rattle.model.specs.Fits.{Fits}
-use Rattle.model.specs.Wdk.{wasSignaled, inTimerQueue, inDpcQueue, WaitReports}
+use Rattle.model.specs.Wdk.{wasSignaled, inTimerQueue, InsertReports, RemoveReports, WaitReports}
 use Rattle.model.proofs.RowLaws.{passes}
 use Rattle.model.proofs.WdkLaws as wdk
-use Rattle.model.proofs.WdkLaws.{InsertReports, step-is}
+use Rattle.model.proofs.WdkLaws.{step-is}
 use Rattle.theorem.specs.History.{Proper}
 use Rattle.theorem.specs.Theorem.{logged, end}
 use Rattle.corollaries.specs.Refusals.{isRefused}
@@ -71,15 +71,16 @@ module _ (w : List ℕ) (p t o d : ℕ) (calls : List Call) (accepted : openRefu
       → InsertReports log (step (InsertQueueDpc address first second) log .state) address (answered words (InsertQueueDpc address first second))
   insert-dpc address first second fit e =
       let c = InsertQueueDpc address first second in
-      subst (λ (x : Answer). InsertReports log (step c log .state) address x) (sym (next w p t o d calls accepted proper c fit tt .answers))
+      subst (InsertReports log (step c log .state) address) (sym (next w p t o d calls accepted proper c fit tt .answers))
       (wdk.insert-dpc-reports log (valid w p t o d calls accepted proper) address first second (passed-by w p t o d calls accepted proper c fit tt e))
 
   -- KeRemoveQueueDpc: whether the DPC was queued; now it is not
   pub remove-dpc : (address : ℕ) → Fits (RemoveQueueDpc address) → isRefused (answered words (RemoveQueueDpc address)) ≡ false
-      → (answered words (RemoveQueueDpc address) ≡ Flag (inDpcQueue log address)) × (inDpcQueue (step (RemoveQueueDpc address) log .state) address ≡ false)
+      → RemoveReports log (step (RemoveQueueDpc address) log .state) address (answered words (RemoveQueueDpc address))
   remove-dpc address fit e =
-      let r = wdk.remove-dpc-reports log (valid w p t o d calls accepted proper) address (passed-by w p t o d calls accepted proper (RemoveQueueDpc address) fit tt e) in
-      (next w p t o d calls accepted proper (RemoveQueueDpc address) fit tt .answers ∙ r .0, r .1)
+      let c = RemoveQueueDpc address in
+      subst (RemoveReports log (step c log .state) address) (sym (next w p t o d calls accepted proper c fit tt .answers))
+      (wdk.remove-dpc-reports log (valid w p t o d calls accepted proper) address (passed-by w p t o d calls accepted proper c fit tt e))
 
   -- KeWaitForMultipleObjects: satisfied, timed out or blocked, and what is taken, of every wait
   pub wait : (l : List ℕ) (all : Bool) (deadline : Option ℕ) (irql : ℕ) → Fits (Wait l all deadline irql) → isRefused (answered words (Wait l all deadline irql)) ≡ false

@@ -21,10 +21,10 @@ use Rattle.model.specs.Dpcs.{dpcAt, phaseAt, isQueued, isBusy, accepted,
 use Rattle.model.specs.Timers.{most, isNamedByOther, armed, cancelled}
 use Rattle.model.specs.Refusal.{pairs, hasDuplicate, badList, waitRefusal, signalRefusal, isNegative, armRefusal, setRefusal, formerBusy, unknownTimer}
 use Rattle.model.specs.Step.{refusal, effect, step, eventSet, timerSet, timerCancelled, dpcInserted, dpcRemoved, waited, granted, timedOut, blocks, periodOf, cancelsWork, withDispatcher, withDpcs, withTable}
-use Rattle.model.specs.Answer.{Answer, gives, Flag, Refused, Done, Outcome}
+use Rattle.model.specs.Answer.{gives, Flag, Refused, Done, Outcome}
 use Rattle.model.specs.Call.{Call, SetEvent, SetTimer, CancelTimer, InsertQueueDpc, RemoveQueueDpc, Wait}
 use Rattle.model.specs.Valid.{Valid}
-use Rattle.model.specs.Wdk.{wasSignaled, inTimerQueue, inDpcQueue, isSignaled, signaledNow, afterWait, TakenBy, NamesObject, isSatisfied, timeoutOver, WaitReports}
+use Rattle.model.specs.Wdk.{wasSignaled, inTimerQueue, inDpcQueue, InsertReports, RemoveReports, isSignaled, signaledNow, afterWait, TakenBy, NamesObject, isSatisfied, timeoutOver, WaitReports}
 use Rattle.model.proofs.ListLaws.{not-both, last-own, out-own, neither, any-false, every-at}
 use Rattle.model.proofs.TableLaws.{some-same, none-some, found, find-put-own, find-put-other}
 use Rattle.model.proofs.RowLaws.{passes, holds, there, same-named}
@@ -98,12 +98,6 @@ cancel-timer-reports s address e =
 
 -- ---- KeInsertQueueDpc
 
-pub record InsertReports (before after : State) (address : ℕ) (answer : Answer) : Type 0 where
-  pub says : answer ≡ Flag (not (inDpcQueue before address))
-  pub queued : inDpcQueue after address ≡ true
-  -- it was queued already: nothing of it changes
-  pub unchanged : inDpcQueue before address ≡ true → (after .dpcs .table ≡ before .dpcs .table) × (after .dpcs .queue ≡ before .dpcs .queue)
-
 pub insert-dpc-reports : (s : State) → Valid s → (address first second : ℕ) → refusal (InsertQueueDpc address first second) s ≡ 0
     → InsertReports s (step (InsertQueueDpc address first second) s .state) address (step (InsertQueueDpc address first second) s .answer)
 unfolding refusal effect dpcInserted
@@ -119,16 +113,16 @@ insert-dpc-reports s v address first second e =
 -- ---- KeRemoveQueueDpc
 
 pub remove-dpc-reports : (s : State) → Valid s → (address : ℕ) → refusal (RemoveQueueDpc address) s ≡ 0
-    → (step (RemoveQueueDpc address) s .answer ≡ Flag (inDpcQueue s address)) × (inDpcQueue (step (RemoveQueueDpc address) s .state) address ≡ false)
+    → RemoveReports s (step (RemoveQueueDpc address) s .state) address (step (RemoveQueueDpc address) s .answer)
 unfolding refusal effect dpcRemoved
 remove-dpc-reports s v address e =
-    subst (λ (o : Outcome). (o .answer ≡ Flag (inDpcQueue s address)) × (inDpcQueue (o .state) address ≡ false)) (sym (step-is (RemoveQueueDpc address) s e))
+    subst (λ (o : Outcome). RemoveReports s (o .state) address (o .answer)) (sym (step-is (RemoveQueueDpc address) s e))
     (go (isQueued (phaseAt (s .dpcs .table) address)) (v .queueing .queued address))
   where
     go : (b : Bool) → inDpcQueue s address ≡ b → let o = cond b (gives (Flag true) (withDpcs s (withdrawn (s .dpcs) address))) (gives (Flag false) s) in
-        (o .answer ≡ Flag (inDpcQueue s address)) × (inDpcQueue (o .state) address ≡ false)
-    go true q = unfold withdrawn in (ap Flag (sym q), out-own address (s .dpcs .queue))
-    go false q = (ap Flag (sym q), q)
+        RemoveReports s (o .state) address (o .answer)
+    go true q = unfold withdrawn in (record { says = ap Flag (sym q); out = out-own address (s .dpcs .queue) })
+    go false q = record { says = ap Flag (sym q); out = q }
 
 -- ---- KeWaitForMultipleObjects
 

@@ -1,7 +1,7 @@
 -- What Microsoft's pages say that the kernel's routines report, of a state before the call and one after it.
 use Prim.Native.Nat.{ℕ, _<_}
 use mathlib.Core.List.{List}
-use mathlib.Core.Bool.{Bool, true, false, cond}
+use mathlib.Core.Bool.{Bool, true, false, cond, not}
 use mathlib.Core.Option.{Option, none, some}
 use mathlib.Core.Path.{_≡_}
 use lib.Dec.{eqb, leb}
@@ -10,7 +10,7 @@ use Rattle.model.specs.Lists.{Mem, member, any, every, nth, given}
 use Rattle.model.specs.State.{State, Named, Event, Object, mutex, event, timer}
 use Rattle.model.specs.Threads.{isThread, hasExited, statusOf}
 use Rattle.model.specs.Waits.{objectAt, eventAt, timerAt, namedIn}
-use Rattle.model.specs.Answer.{Answer, Satisfied, Timeout, Blocked}
+use Rattle.model.specs.Answer.{Answer, Flag, Satisfied, Timeout, Blocked}
 
 -- KeSetEvent: whether the event was signaled before
 abbrev pub wasSignaled : State → ℕ → Bool
@@ -21,10 +21,22 @@ wasSignaled s key = given (eventAt (s .dispatcher .objects) key) false (λ (e : 
 abbrev pub inTimerQueue : State → ℕ → Bool
 inTimerQueue s address = given (timerAt (s .dispatcher .objects) address) false (λ (t : Timer). t .inserted)
 
--- KeInsertQueueDpc: TRUE if the DPC was not in a queue and now is; FALSE if it was queued already, and then nothing of it changes.
--- KeRemoveQueueDpc: TRUE if it was in the queue.
+-- ---- KeInsertQueueDpc, KeRemoveQueueDpc
+
+-- the DPC is in the queue
 abbrev pub inDpcQueue : State → ℕ → Bool
 inDpcQueue s address = member address (s .dpcs .queue)
+
+-- KeInsertQueueDpc: TRUE if the DPC was not in a queue and now is; FALSE if it was queued already, and then nothing of it changes
+pub record InsertReports (before after : State) (address : ℕ) (answer : Answer) : Type 0 where
+  pub says : answer ≡ Flag (not (inDpcQueue before address))
+  pub queued : inDpcQueue after address ≡ true
+  pub unchanged : inDpcQueue before address ≡ true → (after .dpcs .table ≡ before .dpcs .table) × (after .dpcs .queue ≡ before .dpcs .queue)
+
+-- KeRemoveQueueDpc: TRUE if it was in the queue; it is not queued afterwards
+pub record RemoveReports (before after : State) (address : ℕ) (answer : Answer) : Type 0 where
+  pub says : answer ≡ Flag (inDpcQueue before address)
+  pub out : inDpcQueue after address ≡ false
 
 -- ---- KeWaitForMultipleObjects
 
