@@ -80,6 +80,10 @@ module _ (s : State) where
       go none z = let y : _≡_ {A = ℕ} 0 1 = cc in absurd (omega arith)
       go (some d) z = let y : d ≡ x = cc in ap (λ (k : Timer). some k) y
 
+  pub told-timer : (a : ℕ) (x : Timer) → timerAt (s .dispatcher .objects) a ≡ some x → step (call.Reads (call.TimerAt a)) s .answer ≡ TimerIs x
+  unfolding step refusal effect readRefusal readAnswer unknownTimer
+  told-timer a x q = ap (λ (m : Option Timer). cond (eqb (cond (present m) 0 2) 0) (gives (given m None TimerIs) s) (gives (Refused (cond (present m) 0 2)) s) .answer) q
+
   pub queue-told : (k a : ℕ) → step (call.Reads (call.QueuedDpcs k)) s .answer ≡ Number a → nth (s .dpcs .queue) k ≡ some a
   unfolding step refusal effect readRefusal readAnswer
   queue-told k a e = go (nth (s .dpcs .queue) k) e

@@ -1,28 +1,37 @@
 -- What Microsoft's pages report holds of the code's answers, for calls that are not refused.
-use Prim.Native.Nat.{ℕ}
+use Prim.Native.Nat.{ℕ, _≤_}
 use mathlib.Core.List.{List}
-use mathlib.Core.Bool.{Bool, false, not, _&&_}
-use mathlib.Core.Option.{Option}
+use mathlib.Core.Bool.{Bool, true, false, cond, not, _&&_}
+use mathlib.Core.Option.{Option, some}
 use mathlib.Core.Path.{_≡_, sym, ap, _∙_, subst}
+use borrow.Author.Tests.{eq-eqb, ne-eqb}
 use lib.Dec.{ltb}
 use lib.IntN.{ℤ}
 use lib.ListN.{length}
-use Rattle.calls.specs.Run.{answered}
+use Rattle.images.specs.declared.Timer.{Timer}
+use Rattle.calls.specs.Run.{answered, left}
+use Rattle.model.specs.Lists.{given}
 use Rattle.model.specs.State.{State}
+use Rattle.model.specs.Waits.{timerAt}
 use Rattle.model.specs.Timers.{most}
-use Rattle.model.specs.Refusal.{openRefusal, pairs, isNegative, signedDue, setSignedRefusal}
+use Rattle.model.specs.Refusal.{openRefusal, pairs, isNegative, signedDue, setSignedRefusal, unknownTimer}
 use Rattle.model.specs.Answer.{Outcome, Flag}
-use Rattle.model.specs.Call.{Call, SetEvent, SetTimer, SetTimerSigned, CancelTimer, InsertQueueDpc, RemoveQueueDpc, Wait}
+use Rattle.model.specs.Call.{Call, SetEvent, SetTimer, SetTimerSigned, CancelTimer, AdvanceTo, InsertQueueDpc, RemoveQueueDpc, Wait}
+use Rattle.model.specs.Call as call
 use Rattle.model.specs.Step.{step, refusal, effect}
 use Rattle.model.specs.Fits.{Fits}
 use Rattle.model.specs.Wdk.{wasSignaled, inTimerQueue, InsertReports, RemoveReports, WaitReports}
-use Rattle.model.proofs.RowLaws.{passes}
+use Rattle.model.proofs.RowLaws.{passes, known}
 use Rattle.model.proofs.WdkLaws as wdk
 use Rattle.model.proofs.WdkLaws.{step-is}
+use Rattle.model.proofs.TimerLaws as timers
 use Rattle.theorem.specs.History.{Proper}
 use Rattle.theorem.specs.Theorem.{logged, end}
+use Rattle.corollaries.specs.Reads.{TimerRead}
 use Rattle.corollaries.specs.Refusals.{isRefused}
-use Rattle.corollaries.proofs.Next.{next, valid}
+use Rattle.corollaries.specs.Cancels.{CancelSays}
+use Rattle.corollaries.proofs.Next.{next, next-but-one, valid}
+use Rattle.corollaries.proofs.Told.{timer-told, told-timer}
 use Rattle.corollaries.proofs.Refusals.{passed-by}
 
 -- the signed due sets the timer as the due that it means does
@@ -65,6 +74,41 @@ module _ (w : List ℕ) (p t o d : ℕ) (calls : List Call) (accepted : openRefu
   pub cancel-timer : (address : ℕ) → Fits (CancelTimer address) → isRefused (answered words (CancelTimer address)) ≡ false → answered words (CancelTimer address) ≡ Flag (inTimerQueue log address)
   cancel-timer address fit e =
       next w p t o d calls accepted proper (CancelTimer address) fit tt .answers ∙ wdk.cancel-timer-reports log address (passed-by w p t o d calls accepted proper (CancelTimer address) fit tt e)
+
+  -- after an advance that is not refused
+  module _ (time : ℕ) (fits : Fits (AdvanceTo time)) (advances : isRefused (answered words (AdvanceTo time)) ≡ false) (address : ℕ) (fit : Fits (CancelTimer address)) (x : Timer) (read : TimerRead words address x) where
+    abbrev later : State
+    later = step (AdvanceTo time) log .state
+
+    passed : refusal (AdvanceTo time) log ≡ 0
+    passed = passed-by w p t o d calls accepted proper (AdvanceTo time) fits tt advances
+
+    was : timerAt (log .dispatcher .objects) address ≡ some x
+    was = timer-told log address x (sym (next w p t o d calls accepted proper (call.Reads (call.TimerAt address)) tt tt .answers) ∙ read)
+
+    -- what `timer` and a cancel answer then
+    says : (b : Bool) → inTimerQueue later address ≡ b → CancelSays (left words (AdvanceTo time)) address b
+    unfolding refusal unknownTimer
+    says b q =
+        let k = timers.timer-known log (valid w p t o d calls accepted proper) time passed address x was in
+        let y = known (timerAt (later .dispatcher .objects) address) k in
+        record {
+          timer = y .0;
+          read = next-but-one w p t o d calls accepted proper (AdvanceTo time) (call.Reads (call.TimerAt address)) fits tt tt tt .answers ∙ told-timer later address (y .0) (y .1);
+          is = sym (ap (λ (z : Option Timer). given z false (λ (u : Timer). u .inserted)) (y .1)) ∙ q;
+          cancel = next-but-one w p t o d calls accepted proper (AdvanceTo time) (CancelTimer address) fits tt fit tt .answers
+              ∙ wdk.cancel-timer-reports later address (ap (λ (z : Bool). cond z 0 2) k) ∙ ap Flag q;
+        }
+
+    -- a periodic timer that is set stays so, and a cancel is TRUE
+    pub periodic-stays : x .inserted ≡ true → (x .«period_ms» ≡ 0 → ⊥) → CancelSays (left words (AdvanceTo time)) address true
+    periodic-stays i n =
+        says true (timers.periodic-stays log (valid w p t o d calls accepted proper) time passed address x was i (ap (λ (b : Bool). cond b false true) (ne-eqb (x .«period_ms») 0 n)))
+
+    -- a one-shot that the advance has expired is not, and a cancel is FALSE, its DPC queued or not
+    pub one-shot-leaves : x .inserted ≡ true → x .«period_ms» ≡ 0 → x .due ≤ time → CancelSays (left words (AdvanceTo time)) address false
+    one-shot-leaves i z h =
+        says false (timers.one-shot-leaves log (valid w p t o d calls accepted proper) time passed address x was i (ap (λ (b : Bool). cond b false true) (eq-eqb (x .«period_ms») 0 z)) h)
 
   -- KeInsertQueueDpc: TRUE if the DPC was not queued, and now it is; FALSE if it was, and then nothing of it changes
   pub insert-dpc : (address first second : ℕ) → Fits (InsertQueueDpc address first second) → isRefused (answered words (InsertQueueDpc address first second)) ≡ false

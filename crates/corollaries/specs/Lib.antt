@@ -1,3 +1,4 @@
 pub mod Reads
 pub mod SetEvent
 pub mod Refusals
+pub mod Cancels

@@ -65,15 +65,27 @@ listed-expired policy now (x ∷ xs) e p t (inr m) = listed-expired policy now x
 
 -- ---- after an advance
 
--- signals do not matter
-inserted-same : (a b : Option Object) → coreOf a ≡ coreOf b → given (asTimer a) false (λ (t : Timer). t .inserted) ≡ given (asTimer b) false (λ (t : Timer). t .inserted)
-inserted-same a b e = sym (core-inserted a) ∙ ap (λ (o : Option Object). given (asTimer o) false (λ (t : Timer). t .inserted)) e ∙ core-inserted b
-  where
-    core-inserted : (o : Option Object) → given (asTimer (coreOf o)) false (λ (t : Timer). t .inserted) ≡ given (asTimer o) false (λ (t : Timer). t .inserted)
-    core-inserted none = refl
-    core-inserted (some (mutex m)) = refl
-    core-inserted (some (event x)) = refl
-    core-inserted (some (timer t)) = refl
+-- signals do not matter: whether a timer is there, and whether it is inserted
+same-of : (f : Option Object → Bool) → ((o : Option Object) → f (coreOf o) ≡ f o) → (a b : Option Object) → coreOf a ≡ coreOf b → f a ≡ f b
+same-of f h a b e = sym (h a) ∙ ap f e ∙ h b
+
+abbrev isTimer : Option Object → Bool
+isTimer o = present (asTimer o)
+
+abbrev isInserted : Option Object → Bool
+isInserted o = given (asTimer o) false (λ (t : Timer). t .inserted)
+
+core-timer : (o : Option Object) → isTimer (coreOf o) ≡ isTimer o
+core-timer none = refl
+core-timer (some (mutex m)) = refl
+core-timer (some (event x)) = refl
+core-timer (some (timer t)) = refl
+
+core-inserted : (o : Option Object) → isInserted (coreOf o) ≡ isInserted o
+core-inserted none = refl
+core-inserted (some (mutex m)) = refl
+core-inserted (some (event x)) = refl
+core-inserted (some (timer t)) = refl
 
 module _ (s : State) (v : Valid s) (time : ℕ) (e : refusal (AdvanceTo time) s ≡ 0) where
   abbrev s₁ : State
@@ -89,33 +101,31 @@ module _ (s : State) (v : Valid s) (time : ℕ) (e : refusal (AdvanceTo time) s 
   pending : Pending (s .dispatcher .objects) due
   pending = due-pending (s .policy) time (s .dispatcher .objects) (v .sound .rising)
 
-  -- the timer queue after the advance is that after the expiry
-  queue-after : (a : ℕ) → inTimerQueue s₁ a ≡ given (timerAt (expiredAt s time .objects) a) false (λ (t : Timer). t .inserted)
+  -- but for signals, the objects after the advance are those after the expiry
+  after-is : (f : Option Object → Bool) → ((o : Option Object) → f (coreOf o) ≡ f o) → (a : ℕ) → f (objectAt (s₁ .dispatcher .objects) a) ≡ f (objectAt (expiredAt s time .objects) a)
   unfolding effect advanced
-  queue-after a =
+  after-is f h a =
       let x = all-expired (s .limits) (s .dispatcher) (s .policy) time due (unexpired s) (begun s v) pending not-refused in
       let l = expiredAt s time .objects in
       let w = wake-quiet (s .limits) (withObjects (s .dispatcher) l) (sound-objects (s .limits) (s .dispatcher) (v .sound) l (λ i n m. x .keeps n) (x .owners) (x .rising) (x .room) (x .places)) in
       let t = timed-out (s .limits) time (wake (withObjects (s .dispatcher) l)) (w .0 .sound) (w .1) in
-      ap (λ (o : Outcome). inTimerQueue (o .state) a) (step-is (AdvanceTo time) s e)
-      ∙ ap (λ (y : List Object). given (timerAt y a) false (λ (z : Timer). z .inserted)) (t .objects)
-      ∙ inserted-same (objectAt (wake (withObjects (s .dispatcher) l) .objects) a) (objectAt l a) (w .0 .same a)
+      ap (λ (o : Outcome). f (objectAt (o .state .dispatcher .objects) a)) (step-is (AdvanceTo time) s e)
+      ∙ ap (λ (y : List Object). f (objectAt y a)) (t .objects)
+      ∙ same-of f h (objectAt (wake (withObjects (s .dispatcher) l) .objects) a) (objectAt l a) (w .0 .same a)
 
   -- a timer that is due: as it is expired
-  due-after : (a : ℕ) (t : Timer) → timerAt (s .dispatcher .objects) a ≡ some t → isDue time t ≡ true → inTimerQueue s₁ a ≡ expired time t .inserted
-  due-after a t f d =
+  due-expired : (a : ℕ) (t : Timer) → timerAt (s .dispatcher .objects) a ≡ some t → isDue time t ≡ true → objectAt (expiredAt s time .objects) a ≡ some (timer (expired time t))
+  due-expired a t f d =
       let g = timer-found (objectAt (s .dispatcher .objects) a) t f in
       let k = found keyOf (s .dispatcher .objects) a (timer t) g in
       let m = due-listed (s .policy) time (s .dispatcher .objects) t (k .0) d in
-      queue-after a ∙ ap (λ (o : Option Object). given (asTimer o) false (λ (z : Timer). z .inserted))
-      (ap (objectAt (expiredAt s time .objects)) (sym (k .1)) ∙ listed-expired (s .policy) time due (unexpired s) pending t m)
+      ap (objectAt (expiredAt s time .objects)) (sym (k .1)) ∙ listed-expired (s .policy) time due (unexpired s) pending t m
 
   -- a timer that is not due: as it was
-  else-after : (a : ℕ) (t : Timer) → timerAt (s .dispatcher .objects) a ≡ some t → isDue time t ≡ false → inTimerQueue s₁ a ≡ t .inserted
-  else-after a t f d =
+  else-stays : (a : ℕ) (t : Timer) → timerAt (s .dispatcher .objects) a ≡ some t → isDue time t ≡ false → objectAt (expiredAt s time .objects) a ≡ some (timer t)
+  else-stays a t f d =
       let g = timer-found (objectAt (s .dispatcher .objects) a) t f in
-      queue-after a ∙ ap (λ (o : Option Object). given (asTimer o) false (λ (z : Timer). z .inserted))
-      (unlisted (s .policy) time due (unexpired s) a (λ u m z. other u m z g) ∙ g)
+      unlisted (s .policy) time due (unexpired s) a (λ u m z. other u m z g) ∙ g
     where
       other : (u : Timer) → Mem u due → u .address ≡ a → objectAt (s .dispatcher .objects) a ≡ some (timer t) → ⊥
       other u m z g =
@@ -124,6 +134,20 @@ module _ (s : State) (v : Valid s) (time : ℕ) (e : refusal (AdvanceTo time) s 
           let q : timer u ≡ timer t = some-same (timer u) (timer t) y in
           let r : u ≡ t = cc in
           not-both (sym (k .1) ∙ ap (isDue time) r ∙ d)
+
+  due-after : (a : ℕ) (t : Timer) → timerAt (s .dispatcher .objects) a ≡ some t → isDue time t ≡ true → inTimerQueue s₁ a ≡ expired time t .inserted
+  due-after a t f d = after-is isInserted core-inserted a ∙ ap isInserted (due-expired a t f d)
+
+  else-after : (a : ℕ) (t : Timer) → timerAt (s .dispatcher .objects) a ≡ some t → isDue time t ≡ false → inTimerQueue s₁ a ≡ t .inserted
+  else-after a t f d = after-is isInserted core-inserted a ∙ ap isInserted (else-stays a t f d)
+
+  -- an advance takes no timer away
+  pub timer-known : (a : ℕ) (t : Timer) → timerAt (s .dispatcher .objects) a ≡ some t → present (timerAt (s₁ .dispatcher .objects) a) ≡ true
+  timer-known a t f = go (isDue time t) refl
+    where
+      go : (b : Bool) → isDue time t ≡ b → isTimer (objectAt (s₁ .dispatcher .objects) a) ≡ true
+      go true d = after-is isTimer core-timer a ∙ ap isTimer (due-expired a t f d)
+      go false d = after-is isTimer core-timer a ∙ ap isTimer (else-stays a t f d)
 
   -- KeCancelTimer is always TRUE for a periodic timer that is set: time does not take it out of the timer queue
   pub periodic-stays : (a : ℕ) (t : Timer) → timerAt (s .dispatcher .objects) a ≡ some t → t .inserted ≡ true → isPeriodic t ≡ true → inTimerQueue s₁ a ≡ true
