@@ -1,26 +1,42 @@
 -- A dispatch with none current and some thread ready runs the right one, and the words say that it is current.
 use Prim.Native.Nat.{ℕ, _≤_}
-use mathlib.Core.List.{List}
+use mathlib.Core.List.{List, [], _∷_}
 use mathlib.Core.Bool.{Bool, false, cond}
-use mathlib.Core.Path.{_≡_, refl, ap, _∙_}
-use borrow.Author.Tests.{eq-eqb, le-ltb}
+use mathlib.Core.Path.{_≡_, refl, sym, ap, _∙_, subst}
+use native.Mathlib.Omega.{arith}
+use borrow.Author.Tests.{eq-eqb, le-ltb, ltb-false}
+use lib.Dec.{ltb}
 use lib.ListN.{length, getD}
 use Rattle.words.specs.Layout as at
 use Rattle.calls.specs.Run.{answered, left}
-use Rattle.model.specs.Lists.{isEmpty}
-use Rattle.model.specs.State.{State}
+use Rattle.model.specs.Lists.{Mem, isEmpty}
+use Rattle.model.specs.State.{State, Thread, ready, running}
 use Rattle.model.specs.Threads as threads
-use Rattle.model.specs.Threads.{becomes, ran}
+use Rattle.model.specs.Threads.{becomes, ran, threadOf, withStatus, isReady}
 use Rattle.model.specs.Choice.{Right}
 use Rattle.model.specs.Refusal.{openRefusal, dispatchRefusal}
-use Rattle.model.specs.Answer.{Outcome, gives, Run}
+use Rattle.model.specs.Answer.{Outcome, gives, Run, None, ThreadIs}
 use Rattle.model.specs.Call.{Call, Dispatch}
+use Rattle.model.specs.Call as call
 use Rattle.model.specs.Step.{step, refusal, effect, dispatched, withDispatcher, idleAnswer}
+use Rattle.model.proofs.ListLaws.{member-mem}
+use Rattle.model.proofs.ThreadLaws.{length-change, change-own, stands-somewhere}
+use Rattle.model.proofs.SoundLaws.{is-thread}
+use Rattle.model.proofs.RowLaws.{passes}
 use Rattle.model.proofs.ChoiceLaws.{right-next}
 use Rattle.model.proofs.WdkLaws.{step-is}
 use Rattle.theorem.specs.History.{Proper}
 use Rattle.theorem.specs.Theorem.{logged, end}
-use Rattle.corollaries.proofs.Next.{next, valid}
+use Rattle.corollaries.specs.Reads.{ThreadRead}
+use Rattle.corollaries.specs.Refusals.{isRefused}
+use Rattle.corollaries.specs.Dispatches.{MadeCurrent}
+use Rattle.corollaries.proofs.Next.{next, next-but-one, valid}
+use Rattle.corollaries.proofs.Told.{thread-told, told-thread, current-none-told, told-current}
+use Rattle.corollaries.proofs.Refusals.{passed-by}
+
+some-in : (l : List ℕ) (j : ℕ) → Mem j l → isEmpty l ≡ false
+some-in [] j m = absurd m
+some-in (x ∷ l) j m = refl
 
 -- the call on the log
 runs : (s : State) (n : ℕ) → s .limits .threads ≤ n → s .dispatcher .current ≡ 0 → isEmpty (s .dispatcher .placed) ≡ false
@@ -53,3 +69,44 @@ module _ (w : List ℕ) (p t o d : ℕ) (calls : List Call) (accepted : openRefu
         right-next log (valid w p t o d calls accepted proper) e,
         m .agree .numbers 6 _ refl ∙ ap (λ (x : Outcome). x .state .dispatcher .current) q,
       )
+
+  reads : (r : call.Read) → answered words (call.Reads r) ≡ step (call.Reads r) log .answer
+  reads r = next w p t o d calls accepted proper (call.Reads r) tt tt .answers
+
+  ready-placed : (j : ℕ) (y : Thread) → ThreadRead words j y → y .status ≡ ready → Mem j (log .dispatcher .placed)
+  ready-placed j y read q =
+      member-mem j (log .dispatcher .placed) (valid w p t o d calls accepted proper .sound .standing .placed-ready j
+      ∙ ap isReady (ap (λ (z : Thread). z .status) (thread-told log j y (sym (reads (call.Thread j)) ∙ read) .1) ∙ q))
+
+  -- the same by what the reads answer: none is current, some thread is ready, and the dispatch is not refused
+  pub dispatch-runs : (n : ℕ) → isRefused (answered words (Dispatch n)) ≡ false → answered words (call.Reads call.Current) ≡ None
+      → (j : ℕ) (y : Thread) → ThreadRead words j y → y .status ≡ ready
+      → (i : ℕ) × (answered words (Dispatch n) ≡ Run i) × MadeCurrent words (left words (Dispatch n)) i × Right (log .dispatcher) i
+  unfolding refusal dispatchRefusal ran becomes
+  dispatch-runs n e none j y read q =
+      let d₀ = log .dispatcher in
+      let i = threads.next d₀ in
+      let h = ltb-false n (log .limits .threads) (passes (ltb n (log .limits .threads)) 26 0 (passed-by w p t o d calls accepted proper (Dispatch n) tt tt e) .0) in
+      let some = some-in (d₀ .placed) j (ready-placed j y read q) in
+      let r = right-next log (valid w p t o d calls accepted proper) some in
+      let z = runs log n h (current-none-told log (sym (reads call.Current) ∙ none)) some in
+      let s₁ = step (Dispatch n) log .state in
+      let b = stands-somewhere (d₀ .threads) i isReady refl (ap isReady (r .is-ready)) in
+      let x = withStatus (threadOf d₀ i) running in (
+        i,
+        next w p t o d calls accepted proper (Dispatch n) tt tt .answers ∙ ap (λ (o : Outcome). o .answer) z,
+        record {
+          thread = threadOf d₀ i;
+          read = reads (call.Thread i) ∙ told-thread log i (is-thread d₀ i (b .0) (b .1));
+          was = r .is-ready;
+          highest = λ k u f g. subst (λ (v : Thread). v .priority ≤ threadOf d₀ i .priority) (thread-told log k u (sym (reads (call.Thread k)) ∙ f) .1) (r .highest k (ready-placed k u f g));
+          current = after n call.Current ∙ told-current s₁ i (ap (λ (o : Outcome). o .state .dispatcher .current) z) (λ a. omega (arith, b .0));
+          runs = after n (call.Thread i)
+              ∙ told-thread s₁ i (is-thread (s₁ .dispatcher) i (b .0) (subst (λ (o : Outcome). i ≤ length (o .state .dispatcher .threads)) (sym z) (subst (λ (k : ℕ). i ≤ k) (sym (length-change (d₀ .threads) i x)) (b .1))))
+              ∙ ap (ThreadIs i) (ap (λ (o : Outcome). threadOf (o .state .dispatcher) i) z ∙ change-own (d₀ .threads) i x (b .0) (b .1));
+        },
+        r,
+      )
+    where
+      after : (n : ℕ) (r : call.Read) → answered (left words (Dispatch n)) (call.Reads r) ≡ step (call.Reads r) (step (Dispatch n) log .state) .answer
+      after n r = next-but-one w p t o d calls accepted proper (Dispatch n) (call.Reads r) tt tt tt tt .answers

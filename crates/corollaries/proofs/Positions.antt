@@ -1,12 +1,13 @@
 -- Positions in lists: where one stands, how often, and in what order.
-use Prim.Native.Nat.{ℕ, zero, suc, _<_, _≤_}
+use Prim.Native.Nat.{ℕ, zero, suc, _+_, _<_, _≤_}
 use mathlib.Core.List.{List, [], _∷_}
-use mathlib.Core.Bool.{Bool, true, cond}
-use mathlib.Core.Option.{some}
+use mathlib.Core.Bool.{Bool, true, false, cond}
+use mathlib.Core.Option.{none, some}
 use mathlib.Core.Logic.{inl, inr}
 use mathlib.Core.Path.{_≡_, refl, sym, ap, _∙_, subst}
 use native.Mathlib.Omega.{arith}
-use Rattle.model.specs.Lists.{Mem, Before, Distinct, countOf, nth}
+use lib.ListN.{length}
+use Rattle.model.specs.Lists.{Mem, Before, Distinct, countOf, firstOf, nth}
 use Rattle.model.specs.Valid.{RisingBy}
 use Rattle.model.proofs.TableLaws.{some-same, none-some}
 use Rattle.history_tables.proofs.Lists.{nth-mem}
@@ -15,6 +16,16 @@ pub mem-nth : (l : List ℕ) (x : ℕ) → Mem x l → (n : ℕ) × (nth l n ≡
 mem-nth [] x m = absurd m
 mem-nth (y ∷ l) x (inl e) = (0, ap (λ (k : ℕ). some k) (sym e))
 mem-nth (y ∷ l) x (inr m) = let r = mem-nth l x m in (suc (r .0), r .1)
+
+-- every position below the length has one, and the length has none
+pub nth-below : (l : List ℕ) (k : ℕ) → k < length l → (x : ℕ) × (nth l k ≡ some x)
+nth-below [] k h = absurd (omega arith)
+nth-below (y ∷ l) zero h = (y, refl)
+nth-below (y ∷ l) (suc k) h = nth-below l k (omega arith)
+
+pub nth-end : (l : List ℕ) → nth l (length l) ≡ none
+nth-end [] = refl
+nth-end (y ∷ l) = nth-end l
 
 pub distinct-nth : (l : List ℕ) → Distinct l → (x m n : ℕ) → nth l m ≡ some x → nth l n ≡ some x → m ≡ n
 distinct-nth [] h x m n p q = absurd (none-some x p)
@@ -54,3 +65,42 @@ module _ {A : Type 0} (f : A → Bool) where
       let c : _≡_ {A = ℕ} (cond (f z) 1 0) 1 = ap (λ (k : Bool). cond k 1 0) (ap f (sym b) ∙ q) in
       absurd (omega (arith, c, some-counted l x m p))
   counted-once (z ∷ l) h x y (inr m) (inr n) p q = counted-once l (omega arith) x y m n p q
+
+-- of two tests, where the second passes only if the first does, and the first passes once at most
+module _ {A : Type 0} (f g : A → Bool) (less : (x : A) → f x ≡ false → g x ≡ false) where
+  pub none-counted : (l : List A) → firstOf f l ≡ none → (countOf f l ≡ 0) × (countOf g l ≡ 0)
+  none-counted [] e = (refl, refl)
+  none-counted (y ∷ l) e = go (f y) refl e (none-counted l)
+    where
+      go : (b : Bool) → f y ≡ b → cond b (some y) (firstOf f l) ≡ none → (firstOf f l ≡ none → (countOf f l ≡ 0) × (countOf g l ≡ 0))
+          → (cond b 1 0 + countOf f l ≡ 0) × (cond (g y) 1 0 + countOf g l ≡ 0)
+      go true q z ih = absurd (none-some y (sym z))
+      go false q z ih =
+          let c : _≡_ {A = ℕ} (cond (g y) 1 0) 0 = ap (λ (b : Bool). cond b 1 0) (less y q) in
+          let r = ih z in
+          (omega (arith, r .0), omega (arith, c, r .1))
+
+  zero-counted : (l : List A) → countOf f l ≡ 0 → countOf g l ≡ 0
+  zero-counted [] e = refl
+  zero-counted (y ∷ l) e = go (f y) refl e (zero-counted l)
+    where
+      go : (b : Bool) → f y ≡ b → cond b 1 0 + countOf f l ≡ 0 → (countOf f l ≡ 0 → countOf g l ≡ 0) → cond (g y) 1 0 + countOf g l ≡ 0
+      go true q z ih = absurd (omega arith)
+      go false q z ih =
+          let c : _≡_ {A = ℕ} (cond (g y) 1 0) 0 = ap (λ (b : Bool). cond b 1 0) (less y q) in
+          omega (arith, c, ih (omega arith))
+
+  pub first-counted : (l : List A) (x : A) → firstOf f l ≡ some x → countOf f l ≤ 1 → (countOf f l ≡ 1) × (countOf g l ≡ cond (g x) 1 0)
+  first-counted [] x e h = absurd (none-some x e)
+  first-counted (y ∷ l) x e h = go (f y) refl e h (first-counted l x)
+    where
+      go : (b : Bool) → f y ≡ b → cond b (some y) (firstOf f l) ≡ some x → cond b 1 0 + countOf f l ≤ 1
+          → (firstOf f l ≡ some x → countOf f l ≤ 1 → (countOf f l ≡ 1) × (countOf g l ≡ cond (g x) 1 0))
+          → (cond b 1 0 + countOf f l ≡ 1) × (cond (g y) 1 0 + countOf g l ≡ cond (g x) 1 0)
+      go true q z k ih =
+          let c : _≡_ {A = ℕ} (cond (g y) 1 0) (cond (g x) 1 0) = ap (λ (v : A). cond (g v) 1 0) (some-same y x z) in
+          (omega arith, omega (arith, c, zero-counted l (omega arith)))
+      go false q z k ih =
+          let c : _≡_ {A = ℕ} (cond (g y) 1 0) 0 = ap (λ (b : Bool). cond b 1 0) (less y q) in
+          let r = ih z (omega arith) in
+          (omega (arith, r .0), omega (arith, c, r .1))

@@ -1,19 +1,20 @@
 -- The DPC queue, as the code's reads show it, and the counts that stand in the words.
 use Prim.Native.Nat.{ℕ, _+_, _<_}
 use mathlib.Core.List.{List}
-use mathlib.Core.Bool.{true}
-use mathlib.Core.Option.{some}
-use mathlib.Core.Path.{_≡_, sym, ap, _∙_, subst}
+use mathlib.Core.Bool.{true, false}
+use mathlib.Core.Option.{Option, none, some}
+use mathlib.Core.Logic.{inl, inr}
+use mathlib.Core.Path.{_≡_, refl, sym, ap, _∙_, subst}
 use lib.ListN.{length, getD}
 use Rattle.words.specs.Layout as at
 use Rattle.images.specs.declared.Dpc.{Dpc}
 use Rattle.images.specs.declared.DpcWork.{DpcWork}
 use Rattle.images.specs.declared.DpcPhase.{DpcPhase}
-use Rattle.images.specs.declared.DpcPhase.the-variants.{Queued}
+use Rattle.images.specs.declared.DpcPhase.the-variants.{Idle, Queued, Running, Returning}
 use Rattle.calls.specs.Run.{answered}
 use Rattle.model.specs.Lists.{Mem}
 use Rattle.model.specs.State.{State}
-use Rattle.model.specs.Dpcs.{addressOf, dpcAt, phaseAt, isActive, isIdle, workOf}
+use Rattle.model.specs.Dpcs.{addressOf, dpcAt, phaseAt, isActive, isReturning, isIdle, workOf, activeDpc}
 use Rattle.model.specs.Valid.{Queueing, sequenceOf, workAt, activeCount, returningCount}
 use Rattle.model.specs.Refusal.{openRefusal}
 use Rattle.model.specs.Call.{Call}
@@ -28,9 +29,17 @@ use Rattle.theorem.specs.History.{Proper}
 use Rattle.theorem.specs.Theorem.{logged, end}
 use Rattle.theorem.proofs.Theorem.{theorem}
 use Rattle.corollaries.specs.Reads.{DpcRead, QueueRead}
+use Rattle.corollaries.specs.Queue.{ActiveWork, Counted}
 use Rattle.corollaries.proofs.Next.{next, valid}
-use Rattle.corollaries.proofs.Told.{dpc-told, told-dpc, queue-told, told-queue}
-use Rattle.corollaries.proofs.Positions.{mem-nth, distinct-nth, rising-nth, counted-once}
+use Rattle.corollaries.proofs.Told.{dpc-told, told-dpc, queue-told, told-queue, told-queue-end, told-active, told-counters}
+use Rattle.corollaries.proofs.Positions.{mem-nth, nth-below, nth-end, distinct-nth, rising-nth, counted-once, none-counted, first-counted}
+
+-- what is not active is not returning
+idle-not-returning : (q : DpcPhase) → isActive q ≡ false → isReturning q ≡ false
+idle-not-returning Idle e = refl
+idle-not-returning (Queued k) e = refl
+idle-not-returning (Running k) e = refl
+idle-not-returning (Returning k) e = e
 
 module _ (w : List ℕ) (p t o d : ℕ) (calls : List Call) (accepted : openRefusal (length w) p t o d ≡ 0) (proper : Proper (length w) calls) where
   abbrev words : List ℕ
@@ -100,3 +109,29 @@ module _ (w : List ℕ) (p t o d : ℕ) (calls : List Call) (accepted : openRefu
 
   pub returns : getD words at.returned 0 ≡ getD words at.restored 0 + returningCount (log .dpcs .table)
   returns = let z = theorem w p t o d calls accepted proper in z .returned ∙ queueing .returns ∙ ap (λ (n : ℕ). n + returningCount (log .dpcs .table)) (sym (z .restored))
+
+  -- the same by what the reads answer
+  pub counted : Counted words
+  counted = record {
+    counters = log .dpcs .counters;
+    read = reads call.DpcCounters ∙ told-counters log;
+    queued = length (log .dpcs .queue);
+    queue = record {
+      below = λ k h. let r = nth-below (log .dpcs .queue) k h in (r .0, reads (call.QueuedDpcs k) ∙ told-queue log k (r .0) (r .1));
+      end = reads (call.QueuedDpcs (length (log .dpcs .queue))) ∙ told-queue-end log (length (log .dpcs .queue)) (nth-end (log .dpcs .queue));
+    };
+    active = activeCount (log .dpcs .table);
+    returning = returningCount (log .dpcs .table);
+    work = go (activeDpc (log .dpcs .table)) refl;
+    acceptances = queueing .sum;
+    starts = queueing .starts;
+    returns = queueing .returns;
+  }
+    where
+      go : (m : Option Dpc) → activeDpc (log .dpcs .table) ≡ m → ActiveWork words (activeCount (log .dpcs .table)) (returningCount (log .dpcs .table))
+      go none e =
+          let r = none-counted (λ (z : Dpc). isActive (z .phase)) (λ (z : Dpc). isReturning (z .phase)) (λ z. idle-not-returning (z .phase)) (log .dpcs .table) e in
+          inl (reads call.ActiveDpc ∙ told-active log none e, r .0, r .1)
+      go (some x) e =
+          let r = first-counted (λ (z : Dpc). isActive (z .phase)) (λ (z : Dpc). isReturning (z .phase)) (λ z. idle-not-returning (z .phase)) (log .dpcs .table) x e (queueing .one-active) in
+          inr (x, reads call.ActiveDpc ∙ told-active log (some x) e, r .0, r .1)

@@ -2,9 +2,9 @@
 use Prim.Native.Nat.{ℕ}
 use mathlib.Core.Bool.{Bool, true, false, cond}
 use mathlib.Core.Option.{Option, none, some}
-use mathlib.Core.Path.{_≡_, refl, ap}
+use mathlib.Core.Path.{_≡_, refl, ap, _∙_}
 use native.Mathlib.Omega.{arith}
-use borrow.Author.Tests.{eqb-true}
+use borrow.Author.Tests.{eqb-true, ne-eqb}
 use lib.Dec.{eqb}
 use Rattle.images.specs.declared.Timer.{Timer}
 use Rattle.images.specs.declared.Dpc.{Dpc}
@@ -13,9 +13,9 @@ use Rattle.model.specs.State as state
 use Rattle.model.specs.State.{State, Event, Mutex}
 use Rattle.model.specs.Threads.{isThread, threadOf}
 use Rattle.model.specs.Waits.{mutexAt, eventAt, timerAt}
-use Rattle.model.specs.Dpcs.{dpcAt}
+use Rattle.model.specs.Dpcs.{dpcAt, activeDpc}
 use Rattle.model.specs.Refusal.{ownerRefusal, unknownTimer, unknownDpc}
-use Rattle.model.specs.Answer.{Refused, None, ThreadNumber, Number, ThreadIs, EventIs, TimerIs, DpcIs, gives}
+use Rattle.model.specs.Answer.{Refused, None, ThreadNumber, Number, ThreadIs, EventIs, TimerIs, DpcIs, CountersAre, gives}
 use Rattle.model.specs.Call as call
 use Rattle.model.specs.Reads.{readRefusal, readAnswer, numberOrNone, threadAnswer}
 use Rattle.model.specs.Step.{step, refusal, effect}
@@ -60,6 +60,26 @@ module _ (s : State) where
       go none q z = let y : _≡_ {A = ℕ} 0 1 = cc in absurd (omega arith)
       go (some m) q z = (m, q, free m (eqb (m .owner) 0) refl z)
 
+  -- a mutex that a thread owns
+  pub told-owner : (key : ℕ) (m : Mutex) → mutexAt (s .dispatcher .objects) key ≡ some m → (m .owner ≡ 0 → ⊥) → step (call.Reads (call.MutexOwner key)) s .answer ≡ ThreadNumber (m .owner)
+  unfolding step refusal effect readRefusal readAnswer ownerRefusal
+  told-owner key m q n =
+      ap (λ (a : Option Mutex). cond (eqb (cond (present a) 0 2) 0) (gives (given a None (λ (x : Mutex). numberOrNone (x .owner))) s) (gives (Refused (cond (present a) 0 2)) s) .answer) q
+      ∙ ap (λ (b : Bool). cond b None (ThreadNumber (m .owner))) (ne-eqb (m .owner) 0 n)
+
+  -- the current thread, or none
+  pub current-none-told : step (call.Reads call.Current) s .answer ≡ None → s .dispatcher .current ≡ 0
+  unfolding step refusal effect readRefusal readAnswer
+  current-none-told e = go (eqb (s .dispatcher .current) 0) refl e
+    where
+      go : (b : Bool) → eqb (s .dispatcher .current) 0 ≡ b → cond b None (ThreadNumber (s .dispatcher .current)) ≡ None → s .dispatcher .current ≡ 0
+      go true q z = eqb-true (s .dispatcher .current) 0 q
+      go false q z = let y : _≡_ {A = ℕ} 0 1 = cc in absurd (omega arith)
+
+  pub told-current : (i : ℕ) → s .dispatcher .current ≡ i → (i ≡ 0 → ⊥) → step (call.Reads call.Current) s .answer ≡ ThreadNumber i
+  unfolding step refusal effect readRefusal readAnswer
+  told-current i q n = ap numberOrNone q ∙ ap (λ (b : Bool). cond b None (ThreadNumber i)) (ne-eqb i 0 n)
+
   pub dpc-told : (a : ℕ) (x : Dpc) → step (call.Reads (call.DpcAt a)) s .answer ≡ DpcIs x → dpcAt (s .dpcs .table) a ≡ some x
   unfolding step refusal effect readRefusal readAnswer unknownDpc
   dpc-told a x e = go (dpcAt (s .dpcs .table) a) e
@@ -95,3 +115,15 @@ module _ (s : State) where
   pub told-queue : (k a : ℕ) → nth (s .dpcs .queue) k ≡ some a → step (call.Reads (call.QueuedDpcs k)) s .answer ≡ Number a
   unfolding step refusal effect readRefusal readAnswer
   told-queue k a q = ap (λ (m : Option ℕ). given m None Number) q
+
+  pub told-queue-end : (k : ℕ) → nth (s .dpcs .queue) k ≡ none → step (call.Reads (call.QueuedDpcs k)) s .answer ≡ None
+  unfolding step refusal effect readRefusal readAnswer
+  told-queue-end k q = ap (λ (m : Option ℕ). given m None Number) q
+
+  pub told-active : (o : Option Dpc) → activeDpc (s .dpcs .table) ≡ o → step (call.Reads call.ActiveDpc) s .answer ≡ given o None DpcIs
+  unfolding step refusal effect readRefusal readAnswer
+  told-active o q = ap (λ (m : Option Dpc). given m None DpcIs) q
+
+  pub told-counters : step (call.Reads call.DpcCounters) s .answer ≡ CountersAre (s .dpcs .counters)
+  unfolding step refusal effect readRefusal readAnswer
+  told-counters = refl
