@@ -86,6 +86,8 @@ isOutside address end b =
     cond (ltb address (backingBase b)) true
     (cond (leb (2 ^ 64) limit) true (ltb limit end))
 
+-- "15: address 0, end or backing end past 2^64 − 1, not aligned to width w (8 for x64, 4 for x86), outside backing (pool: its requested
+-- bytes), x86 end above 2^32, or pool requested over mapped"
 unfoldable pub locationRefusal : ℕ → ℕ → Architecture → TimerBacking → ℕ
 locationRefusal address size a b =
     let end = address + size in

@@ -57,7 +57,7 @@ numberOrNone n = cond (eqb n 0) None (ThreadNumber n)
 unfoldable pub threadAnswer : Dispatcher → ℕ → Answer
 threadAnswer d id = cond (isThread d id) (ThreadIs id (threadOf d id)) None
 
--- how many threads wait for the mutex
+-- `mutex_waiters` of the Rust: how many threads wait for the mutex
 unfoldable pub mutexWaiters : Dispatcher → ℕ → ℕ
 mutexWaiters d key = countOf (λ (t : Thread). listed (record { kind = 0; key = key }) (waitOf (t .status) .objects)) (d .threads)
 
@@ -75,14 +75,14 @@ lastDpcBelow end (d ∷ ds) = cond (ltb (d .address) end) (given (lastDpcBelow e
 abbrev pub endOf : ℕ → ℕ → ℕ
 endOf address size = min (address + size) most
 
--- the last timer that begins before the range ends overlaps it
+-- `timer_read_overlap` of the Rust: the last timer that begins before the range ends overlaps it
 unfoldable pub timerReadOverlap : State → ℕ → ℕ → Bool
 timerReadOverlap s address size =
     cond (eqb size 0) false
     (given (lastTimerBelow (endOf address size) (timersOf (s .dispatcher .objects))) false
     (λ (t : Timer). overlaps address size (t .address) (timerSize (t .architecture))))
 
--- that, or the last DPC that begins before the range ends does
+-- `timer_metadata_overlap` of the Rust: that, or the last DPC that begins before the range ends does
 unfoldable pub timerMetadataOverlap : State → ℕ → ℕ → Bool
 timerMetadataOverlap s address size =
     cond (eqb size 0) false
@@ -90,7 +90,7 @@ timerMetadataOverlap s address size =
     || given (lastDpcBelow (endOf address size) (s .dpcs .table)) false
     (λ (d : Dpc). overlaps address size (d .address) (dpcSize (d .architecture))))
 
--- the first timer, by address, that is inserted and has a DPC
+-- `pending_timer_dpc` of the Rust: the first timer, by address, that is inserted and has a DPC
 unfoldable pub pendingTimer : State → Option Timer
 pendingTimer s = firstOf (λ (t : Timer). cond (t .inserted) (cond (eqb (t .dpc) 0) false true) false) (timersOf (s .dispatcher .objects))
 
@@ -99,7 +99,7 @@ abbrev pub headOf : List Dpc → List ℕ → Option Dpc
 headOf table [] = none
 headOf table (a ∷ l) = dpcAt table a
 
--- "`next_dpc`": the head of the queue, where nothing is active
+-- `next_dpc` of the Rust: the head of the queue, where nothing is active
 unfoldable pub nextDpc : State → Option Dpc
 nextDpc s = cond (present (activeDpc (s .dpcs .table))) none (headOf (s .dpcs .table) (s .dpcs .queue))
 

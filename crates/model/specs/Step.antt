@@ -54,7 +54,7 @@ opened p t o d =
 
 -- ---- mutexes and events
 
--- a known mutex stays as it is
+-- `adopt_mutex` of the Rust: a known mutex stays as it is, a new one has the owner
 unfoldable pub adopted : State → ℕ → Option ℕ → State
 adopted s key owner =
     let l = s .dispatcher .objects in
@@ -85,13 +85,13 @@ isRetiredEvent base end (mutex m) = false
 isRetiredEvent base end (event e) = leb base (e .key) && ltb (e .key) end
 isRetiredEvent base end (timer t) = false
 
--- `retire_event_backing`
+-- `retire_event_backing` of the Rust: they go
 unfoldable pub eventsRetired : State → ℕ → ℕ → State
 eventsRetired s base size = withTable s (keep (λ o. not (isRetiredEvent base (base + size) o)) (s .dispatcher .objects))
 
 -- ---- waiting
 
--- the current thread goes on, with the result of its wait
+-- the current thread goes on, with the result of its wait, as in `wait` of the Rust
 abbrev pub withOwnResult : Dispatcher → Option WaitResult → Dispatcher
 withOwnResult d r = withThread d (d .current) (withResult (threadOf d (d .current)) r)
 
@@ -215,7 +215,7 @@ abbrev pub periodOf : ℤ → ℕ
 periodOf (pos n) = n
 periodOf (negsuc n) = 0
 
--- whether the timer was inserted before
+-- `set_timer` of the Rust answers whether the timer was inserted before
 unfoldable pub timerSet : State → ℕ → ℕ → Bool → ℕ → ℕ → Outcome
 timerSet s address due absolute period dpc =
     given (timerAt (s .dispatcher .objects) address) (gives Done s)
@@ -248,7 +248,7 @@ isRetiredTimer address size (mutex m) = false
 isRetiredTimer address size (event e) = false
 isRetiredTimer address size (timer t) = timerOverlapped address size t
 
--- `retire_timer_backing`: the overlapped timers and DPCs go
+-- `retire_timer_backing` of the Rust: the overlapped timers and DPCs go
 unfoldable pub timersRetired : State → ℕ → ℕ → State
 timersRetired s address size =
     withTable (withDpcs s (record {

@@ -25,7 +25,7 @@ lifetime = 65536
 
 -- ---- records
 
--- "a timer that is neither signaled nor inserted", with its initialization
+-- a timer that is neither signaled nor inserted, with the number of its initialization, as `initialize_timer` of the Rust makes it
 unfoldable pub newTimer : ℕ → Architecture → TimerBacking → Bool → ℕ → Timer
 newTimer address a b manual n =
     record {
@@ -43,7 +43,7 @@ newTimer address a b manual n =
       initialization = n;
     }
 
--- set: inserted, not signaled, and armed once more
+-- set, as `set_timer` of the Rust does: inserted, not signaled, and armed once more
 unfoldable pub armed : Timer → ℕ → Bool → ℕ → ℕ → Timer
 armed t due absolute period dpc =
     record {
@@ -79,7 +79,7 @@ retimed t signaled inserted due =
       initialization = t .initialization;
     }
 
--- no longer inserted; the rest as it was
+-- cancelled, as `cancel_timer` of the Rust does: no longer inserted; the rest as it was
 abbrev pub cancelled : Timer → Timer
 cancelled t = retimed t (t .signaled) false (t .due)
 
@@ -93,7 +93,7 @@ nextDue due period now = let p = 10000 * period in due + ((now - due) / p + 1) *
 abbrev pub isPeriodic : Timer → Bool
 isPeriodic t = cond (eqb (t .«period_ms») 0) false true
 
--- signaled; a periodic one is due again, the other is no longer inserted
+-- expired, as `refresh_timers` of the Rust does: signaled; a periodic one is due again, the other is no longer inserted
 unfoldable pub expired : ℕ → Timer → Timer
 expired now t = cond (isPeriodic t) (retimed t true true (nextDue (t .due) (t .«period_ms») now)) (retimed t true false (t .due))
 

@@ -96,11 +96,11 @@ pub record Sound (l : Limits) (d : Dispatcher) : Type 0 where
   pub room : length (d .objects) ≤ l .objects
   pub places : Each keyOf (d .objects) Placed
 
--- "no waiter on objects could be satisfied"
+-- demand 3: no waiter that could be satisfied is left waiting; a delay waits for no object
 abbrev pub Quiet : Dispatcher → Type 0
 Quiet d = (i : ℕ) → canWake d (waitOf (statusOf d i)) ≡ false
 
--- "no waiting deadline has been reached"
+-- demand 3: no reached deadline is left
 abbrev pub InTime : ℕ → Dispatcher → Type 0
 InTime now d = (i : ℕ) → reached (waitOf (statusOf d i) .deadline) now ≡ false
 

@@ -88,14 +88,14 @@ TakenBy id before after n = (o : Object) → namedIn before n ≡ some o → obj
 abbrev pub NamesObject : Named → ℕ → Type 0
 NamesObject n k = (k ≡ n .key) × (n .kind ≡ 3 → ⊥)
 
--- "WaitAny: the lowest index among the objects that are signaled, which alone is taken"
+-- WaitAny: the lowest index among the objects that are signaled, which alone is taken
 pub record WaitAny (before after : State) (id : ℕ) (ns : List Named) (i : ℕ) : Type 0 where
   pub which : Named
   pub lowest : LowestSignaled before ns i which
   pub taken : TakenBy id (before .dispatcher .objects) (after .dispatcher .objects) which
   pub alone : (k : ℕ) → (NamesObject which k → ⊥) → objectAt (after .dispatcher .objects) k ≡ objectAt (before .dispatcher .objects) k
 
--- "WaitAll: success once every one is, all taken together"
+-- WaitAll: success once every one is, all taken together
 pub record WaitAll (before after : State) (id : ℕ) (ns : List Named) : Type 0 where
   pub every : (n : Named) → Mem n ns → signaledNow before n ≡ true
   pub taken : (n : Named) → Mem n ns → TakenBy id (before .dispatcher .objects) (after .dispatcher .objects) n
@@ -115,7 +115,7 @@ pub record WaitReports (before after : State) (id : ℕ) (ns : List Named) (all 
   -- satisfied: WaitAny, and WaitAll
   pub one : all ≡ false → isSatisfied before ns all ≡ true → (i : ℕ) × (answer ≡ Satisfied i) × WaitAny before after id ns i
   pub each : all ≡ true → isSatisfied before ns all ≡ true → (answer ≡ Satisfied 0) × WaitAll before after id ns
-  -- not satisfied: "a zero or reached timeout that nothing satisfies: timeout", else the thread waits; nothing is taken
+  -- not satisfied: with a zero or reached timeout, timeout; else the thread waits; nothing is taken
   pub over : isSatisfied before ns all ≡ false → timeoutOver before timeout ≡ true → answer ≡ Timeout
   pub waits : isSatisfied before ns all ≡ false → timeoutOver before timeout ≡ false → answer ≡ Blocked
   pub untaken : isSatisfied before ns all ≡ false → after .dispatcher .objects ≡ before .dispatcher .objects
