@@ -173,9 +173,10 @@ impl Scheduler {
             threads: t as usize,
         };
         // SAFETY: `out` has `m` words.
-        let needed: Out =
-            scheduler.read(|_, _, o, m| unsafe { scheduler_words_needed(t, k, d, o, m) })?;
-        scheduler.words = vec![0; needed[1] as usize];
+        let needed: Result<Out> =
+            scheduler.read(|_, _, o, m| unsafe { scheduler_words_needed(t, k, d, o, m) });
+        // Bad limits get no words: `open` refuses them, but a bad priority first.
+        scheduler.words = vec![0; needed.map_or(0, |out| out[1] as usize)];
         let priority = root_priority.into();
         // SAFETY: as in every call below, `w` has `n` words and `o` has `m`, apart from each other.
         let _: Out = scheduler

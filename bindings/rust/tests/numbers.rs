@@ -38,6 +38,7 @@ fn refusals() {
         ..Limits::MOST
     };
     assert_eq!(number(Scheduler::with_limits(8, bad)), 27);
+    assert_eq!(number(Scheduler::with_limits(0, bad)), 1);
 
     let mut bench = small();
     bench.configure_dpc_dispatch([1, 2]).unwrap();
@@ -127,6 +128,10 @@ fn clock_errors() {
     assert_eq!(
         (error, error.number()),
         (ClockError::InvalidConfiguration, 25)
+    );
+    assert_eq!(
+        error.to_string(),
+        "Invalid guest CPU frequency or UTC offset (25)"
     );
     let mut clock = GuestClock::new(0, 1_844_674_407_370_955, 0, 1).unwrap();
     clock.advance_100ns(1615).unwrap();
