@@ -64,7 +64,8 @@ enum bench_refusal {
     BENCH_COUNT_END = 24,     /* a count at 2^64 - 1 */
     BENCH_CONFIGURATION = 25, /* a clock's bad configuration */
     BENCH_CLOCK_OVERFLOW = 26,
-    BENCH_FORM = 27 /* words out of form, a slice too short, or bad limits; before all else */
+    BENCH_FORM = 27 /* words out of form, a slice too short, or bad limits; before all else, but for clock_new and
+                       scheduler_open, see there */
 };
 
 /* What an accepted call answers: out[0], and what stands behind it. */
@@ -105,6 +106,7 @@ enum bench_backing { BENCH_IMAGE = 0, BENCH_POOL = 1 };
 
 /* ---- The clock: seven words (UTC, uptime in ms, ticks, offset + 840, MHz, pending cycles, countdown) ---- */
 
+/* Whatever the words held. A bad configuration, 25, comes before too few words, 27. */
 uint64_t clock_new(uint64_t *words, size_t length, uint64_t utc_filetime, uint64_t uptime_ms, int32_t utc_offset_minutes, uint32_t base_mhz);
 uint64_t clock_instruction(uint64_t *words, size_t length);
 uint64_t clock_flush_cycles(uint64_t *words, size_t length);
@@ -121,7 +123,8 @@ uint64_t clock_tsc(const uint64_t *words, size_t length, uint64_t *out, size_t o
 
 /* BENCH_COUNT. Limits: 1 to 256 threads, 0 to 4096 objects, 0 to 4096 DPCs. */
 uint64_t scheduler_words_needed(uint64_t threads, uint64_t objects, uint64_t dpcs, uint64_t *out, size_t out_length);
-/* BENCH_DONE. Whatever the words held; thread 1 runs, with the priority. */
+/* BENCH_DONE. Whatever the words held; thread 1 runs, with the priority. A short `out` is 27; then a bad priority is 1; then
+   bad limits or too few words are 27. */
 uint64_t scheduler_open(uint64_t *words, size_t length, uint64_t priority, uint64_t threads, uint64_t objects, uint64_t dpcs, uint64_t *out, size_t out_length);
 
 /* ---- Threads ---- */
