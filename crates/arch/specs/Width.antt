@@ -1,4 +1,4 @@
--- The bytes of a pointer, and the row of a table that has one row an architecture.
+-- The bytes of a pointer, by architecture.
 use Prim.Native.Nat.{ℕ}
 use Rattle.arch.specs.declared.Architecture.{Architecture}
 use Rattle.arch.specs.declared.Architecture.the-variants.{X64, X86}
