@@ -1,3 +1,4 @@
 pub mod PlaceLaws
 pub mod FieldLaws
 pub mod ImageLaws
+pub mod Samples

@@ -1,3 +1,4 @@
 pub mod Place
 pub mod Field
 pub mod Image
+pub mod Samples
