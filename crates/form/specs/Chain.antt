@@ -51,9 +51,13 @@ chainIn (suc k) w c state p before at n =
 unfoldable pub chainSize : List ℕ → Chain → ℕ → ℕ → ℕ
 chainSize w c state p = chainIn 4096 w c state p 0 (firstOf w c) 1
 
+-- it holds as many as wait
+abbrev pub waitersStandAs : List ℕ → ℕ → Bool
+waitersStandAs w waiting = eqb (chainSize w waitersChain 3 0) (waiting + 1)
+
 -- document 01: each chain holds exactly its members once, of the waiters' chain
 unfoldable pub waitersStandOnce : List ℕ → Bool
-waitersStandOnce w = eqb (chainSize w waitersChain 3 0) (stateCount w 3 + 1)
+waitersStandOnce w = waitersStandAs w (stateCount w 3)
 
 -- ---- the ready queues
 
@@ -76,6 +80,10 @@ queuesIn (suc k) w p n =
 unfoldable pub readySize : List ℕ → ℕ
 readySize w = queuesIn 31 w 1 1
 
+-- they hold as many as are ready
+abbrev pub readyStandAs : List ℕ → ℕ → Bool
+readyStandAs w ready = eqb (readySize w) (ready + 1)
+
 -- document 01: each chain holds exactly its members once, of the ready queues
 unfoldable pub readyStandOnce : List ℕ → Bool
-readyStandOnce w = eqb (readySize w) (stateCount w 2 + 1)
+readyStandOnce w = readyStandAs w (stateCount w 2)

@@ -9,6 +9,7 @@ use Rattle.words.specs.Layout.{threadAt}
 use Rattle.threads.specs.Thread.{threadOf, known, threadCount, countOf, placesAt}
 use Rattle.waits.specs.Lists.{badKindIn, unknownIn, duplicateIn}
 use Rattle.kernel.specs.Open.{badPriority}
+use Rattle.form.specs.declared.thread.Seen.{Seen}
 
 unfoldable pub hasState : List ℕ → ℕ → ℕ → Bool
 hasState w id state = eqb (getD w (threadAt id + 1) 0) state
@@ -81,3 +82,9 @@ stateCountIn (suc m) w id state = oneIf w id state + stateCountIn m w (id + 1) s
 
 unfoldable pub stateCount : List ℕ → ℕ → ℕ
 stateCount w state = stateCountIn (threadCount w) w 1 state
+
+-- ---- what one pass says: whether every thread passes, and where they do, how many are ready and how many wait
+
+unfoldable pub threadsSeen : List ℕ → Seen
+threadsSeen w =
+    cond (threadsPass w) (record { pass = true; ready = stateCount w 2; waiting = stateCount w 3 }) (record { pass = false; ready = 0; waiting = 0 })

@@ -2,7 +2,7 @@
 // cannot hold a thread twice, so that as many members as there are threads of that state are these threads.
 ghost use mathlib.Core.Path.{_≡_};
 ghost use Prim.Native.Nat.{_≤_};
-ghost use Rattle.form.specs.Chain.{sequenceAt, sequencesRise, hasPriority, memberPasses, chainSize, waitersStandOnce, flag, bitPasses, queueSize, readySize, readyStandOnce};
+ghost use Rattle.form.specs.Chain.{sequenceAt, sequencesRise, hasPriority, memberPasses, chainSize, waitersStandAs, flag, bitPasses, queueSize, readySize, readyStandAs};
 use super::thread;
 use chains::Chain;
 use chains::ready;
@@ -85,13 +85,15 @@ fn chain_size(w: &[u64], c: Chain, state: u64, p: u64) -> u64
     0
 }
 
-// Document 01: each chain holds exactly its members once, of the waiters' chain.
-pub fn waiters_stand_once(w: &[u64]) -> bool
-    ensures { λ r. ⌜ r ≡ waitersStandOnce (now (w .entry)) ⌝ }
+// Document 01: each chain holds exactly its members once, of the waiters' chain. `waiting` is how many threads wait.
+pub fn waiters_stand_once(w: &[u64], waiting: u64) -> bool
+    ensures { λ r. ⌜ r ≡ waitersStandAs (now (w .entry)) waiting ⌝ }
 {
     let size = chain_size(w, ready::waiters_chain(), threads::WAITING, 0);
-    let n = thread::state_count(w, threads::WAITING);
-    size == n + 1
+    if size == 0 {
+        return false;
+    }
+    size - 1 == waiting
 }
 
 fn flag(id: u64) -> u64
@@ -139,11 +141,13 @@ fn ready_size(w: &[u64]) -> u64
     n
 }
 
-// Document 01: each chain holds exactly its members once, of the ready queues.
-pub fn ready_stand_once(w: &[u64]) -> bool
-    ensures { λ r. ⌜ r ≡ readyStandOnce (now (w .entry)) ⌝ }
+// Document 01: each chain holds exactly its members once, of the ready queues. `ready` is how many threads are ready.
+pub fn ready_stand_once(w: &[u64], ready: u64) -> bool
+    ensures { λ r. ⌜ r ≡ readyStandAs (now (w .entry)) ready ⌝ }
 {
     let standing = ready_size(w);
-    let n = thread::state_count(w, threads::READY);
-    standing == n + 1
+    if standing == 0 {
+        return false;
+    }
+    standing - 1 == ready
 }

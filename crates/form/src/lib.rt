@@ -1,5 +1,6 @@
 // Whether lent words are in form, by the sentence "Words are in form if .." of document 01, section "Limits". Each of its
-// clauses is a test of its own, named here. What is about one record is tested record by record, in one pass of each table.
+// clauses is a test of its own, named here. What is about one record is tested record by record, in one pass of each table, which
+// also counts the threads by state and the DPCs by phase, for the tests of the chains and of the counts of DPC work.
 //
 //   long enough                      header::is_long_enough
 //   limits pass their checks         header::limits_pass
@@ -45,32 +46,34 @@ pub fn in_form(w: &[u64]) -> bool
     if !header::numbers_pass(w) {
         return false;
     }
-    if !thread::threads_pass(w) {
+    let t = thread::threads_pass(w);
+    if !t.pass {
         return false;
     }
     if !object::objects_pass(w) {
         return false;
     }
-    if !dpc::dpcs_pass(w) {
+    let d = dpc::dpcs_pass(w);
+    if !d.pass {
         return false;
     }
     if !chain::sequences_rise(w) {
         return false;
     }
-    if !chain::waiters_stand_once(w) {
+    if !chain::waiters_stand_once(w, t.waiting) {
         return false;
     }
-    if !chain::ready_stand_once(w) {
+    if !chain::ready_stand_once(w, t.ready) {
         return false;
     }
-    if !queue::queue_stands_once(w) {
+    if !queue::queue_stands_once(w, d.queued) {
         return false;
     }
-    if !counts::sum_holds(w) {
+    if !counts::sum_holds(w, d.queued, d.active) {
         return false;
     }
-    if !counts::starts_pass(w) {
+    if !counts::starts_pass(w, d.active) {
         return false;
     }
-    counts::returns_pass(w)
+    counts::returns_pass(w, d.returning)
 }

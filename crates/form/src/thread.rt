@@ -1,6 +1,6 @@
 // The threads in form: each record's numbers, who runs, and what the waiting ones wait for.
 ghost use mathlib.Core.Path.{_≡_};
-ghost use Rattle.form.specs.Thread.{hasState, live, badState, recordPasses, exitPasses, waitPasses, delayPasses, threadNumbers, runsIfCurrent, waitsForKnown, waitsForEachOnce, threadPasses, threadsPass, oneIf, stateCount};
+ghost use Rattle.form.specs.Thread.{hasState, live, badState, recordPasses, exitPasses, waitPasses, delayPasses, threadNumbers, runsIfCurrent, waitsForKnown, waitsForEachOnce, threadPasses, threadsSeen, oneIf};
 use kernel::open;
 use waits::lists;
 use words::layout;
@@ -148,22 +148,6 @@ fn thread_passes(w: &[u64], id: u64) -> bool
     waits_for_each_once(w, id)
 }
 
-// Every thread passes.
-pub fn threads_pass(w: &[u64]) -> bool
-    ensures { λ r. ⌜ r ≡ threadsPass (now (w .entry)) ⌝ }
-{
-    let mut id: u64 = 1;
-    let mut left = threads::count(w);
-    while 0 < left {
-        if !thread_passes(w, id) {
-            return false;
-        }
-        id += 1;
-        left -= 1;
-    }
-    true
-}
-
 fn one_if(w: &[u64], id: u64, state: u64) -> u64
     ensures { λ r. ⌜ r ≡ oneIf (now (w .entry)) id state ⌝ }
 {
@@ -173,17 +157,37 @@ fn one_if(w: &[u64], id: u64, state: u64) -> u64
     0
 }
 
-// How many threads have the state.
-pub fn state_count(w: &[u64], state: u64) -> u64
-    ensures { λ r. ⌜ r ≡ stateCount (now (w .entry)) state ⌝ }
+// Whether every thread passes; where they do, how many are ready and how many wait.
+pub struct Seen {
+    pub pass: bool,
+    pub ready: u64,
+    pub waiting: u64,
+}
+
+// The one pass of the threads: each is tested and counted.
+pub fn threads_pass(w: &[u64]) -> Seen
+    ensures { λ r. ⌜ r ≡ threadsSeen (now (w .entry)) ⌝ }
 {
     let mut id: u64 = 1;
-    let mut n: u64 = 0;
+    let mut ready: u64 = 0;
+    let mut waiting: u64 = 0;
     let mut left = threads::count(w);
     while 0 < left {
-        n += one_if(w, id, state);
+        if !thread_passes(w, id) {
+            return Seen {
+                pass: false,
+                ready: 0,
+                waiting: 0,
+            };
+        }
+        ready += one_if(w, id, threads::READY);
+        waiting += one_if(w, id, threads::WAITING);
         id += 1;
         left -= 1;
     }
-    n
+    Seen {
+        pass: true,
+        ready: ready,
+        waiting: waiting,
+    }
 }

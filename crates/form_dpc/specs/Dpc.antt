@@ -12,6 +12,7 @@ use Rattle.tables.specs.Table.{keyAt}
 use Rattle.objects.specs.Objects.{dpcsBase, objectFound, placeOf}
 use Rattle.images.specs.Place.{architectureOf, dpcSize}
 use Rattle.dpcs.specs.Record.{dpcCount}
+use Rattle.form_dpc.specs.declared.dpc.Seen.{Seen}
 use Rattle.form_dpc.specs.Place.{keyRises, located}
 use Rattle.form_dpc.specs.Timer.{hasDpc}
 
@@ -85,3 +86,11 @@ phaseCountIn (suc m) w base i phase = phaseOne w (entryAt base i) phase + phaseC
 
 unfoldable pub phaseCount : List ℕ → ℕ → ℕ
 phaseCount w phase = phaseCountIn (dpcCount w) w (dpcsBase w) 0 phase
+
+-- ---- what one pass says: whether every DPC passes, and where they do, how many are queued, active and returning
+
+unfoldable pub dpcsSeen : List ℕ → Seen
+dpcsSeen w =
+    cond (dpcsPass w)
+    (record { pass = true; queued = phaseCount w 1; active = phaseCount w 2 + phaseCount w 3; returning = phaseCount w 3 })
+    (record { pass = false; queued = 0; active = 0; returning = 0 })

@@ -27,6 +27,10 @@ queueIn (suc k) w c before at n =
 unfoldable pub queueSize : List ℕ → ℕ
 queueSize w = queueIn 4097 w (queueChain w) 0 (firstOf w (queueChain w)) 1
 
+-- it holds as many as are queued
+abbrev pub queueStandsAs : List ℕ → ℕ → Bool
+queueStandsAs w queued = eqb (queueSize w) (queued + 1)
+
 -- document 01: each chain holds exactly its members once, of the DPC queue
 unfoldable pub queueStandsOnce : List ℕ → Bool
-queueStandsOnce w = eqb (queueSize w) (phaseCount w 1 + 1)
+queueStandsOnce w = queueStandsAs w (phaseCount w 1)

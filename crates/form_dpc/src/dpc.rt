@@ -1,6 +1,6 @@
 // The DPCs in form: each record's numbers, its address, its work and its timer; and how many have a phase.
 ghost use mathlib.Core.Path.{_≡_};
-ghost use Rattle.form_dpc.specs.Dpc.{dpcPlaced, namesNoTimer, originPasses, workPasses, dpcNumbers, addressOnce, sequenceGiven, namedRightly, dpcPasses, dpcsPass, hasPhase, phaseOne, phaseCount};
+ghost use Rattle.form_dpc.specs.Dpc.{dpcPlaced, namesNoTimer, originPasses, workPasses, dpcNumbers, addressOnce, sequenceGiven, namedRightly, dpcPasses, dpcsSeen, hasPhase, phaseOne};
 use super::timer;
 use dpcs::record;
 use words::layout;
@@ -136,23 +136,6 @@ fn dpc_passes(w: &[u64], base: usize, i: u64) -> bool
     is_named_rightly(w, at)
 }
 
-// Every DPC passes.
-pub fn dpcs_pass(w: &[u64]) -> bool
-    ensures { λ r. ⌜ r ≡ dpcsPass (now (w .entry)) ⌝ }
-{
-    let base = objects::dpcs_base(w);
-    let mut i: u64 = 0;
-    let mut left = record::count(w);
-    while 0 < left {
-        if !dpc_passes(w, base, i) {
-            return false;
-        }
-        i += 1;
-        left -= 1;
-    }
-    true
-}
-
 pub fn has_phase(w: &[u64], at: usize, phase: u64) -> bool
     ensures { λ r. ⌜ r ≡ hasPhase (now (w .entry)) at phase ⌝ }
 {
@@ -168,18 +151,44 @@ fn one_if(w: &[u64], at: usize, phase: u64) -> u64
     0
 }
 
-// How many DPCs have the phase.
-pub fn phase_count(w: &[u64], phase: u64) -> u64
-    ensures { λ r. ⌜ r ≡ phaseCount (now (w .entry)) phase ⌝ }
+// Whether every DPC passes; where they do, how many are queued, how many active (running or returning), and how many returning.
+pub struct Seen {
+    pub pass: bool,
+    pub queued: u64,
+    pub active: u64,
+    pub returning: u64,
+}
+
+// The one pass of the DPCs: each is tested and counted.
+pub fn dpcs_pass(w: &[u64]) -> Seen
+    ensures { λ r. ⌜ r ≡ dpcsSeen (now (w .entry)) ⌝ }
 {
     let base = objects::dpcs_base(w);
     let mut i: u64 = 0;
-    let mut n: u64 = 0;
+    let mut queued: u64 = 0;
+    let mut running: u64 = 0;
+    let mut returning: u64 = 0;
     let mut left = record::count(w);
     while 0 < left {
-        n += one_if(w, layout::entry_at(base, i), phase);
+        if !dpc_passes(w, base, i) {
+            return Seen {
+                pass: false,
+                queued: 0,
+                active: 0,
+                returning: 0,
+            };
+        }
+        let at = layout::entry_at(base, i);
+        queued += one_if(w, at, QUEUED);
+        running += one_if(w, at, RUNNING);
+        returning += one_if(w, at, RETURNING);
         i += 1;
         left -= 1;
     }
-    n
+    Seen {
+        pass: true,
+        queued: queued,
+        active: running + returning,
+        returning: returning,
+    }
 }

@@ -1,7 +1,7 @@
 // The DPC queue in form: a chain by a next index that ends cannot hold a DPC twice, so that as many members as there are
 // queued DPCs are these DPCs.
 ghost use mathlib.Core.Path.{_≡_};
-ghost use Rattle.form_dpc.specs.Queue.{chainEnd, queuedAt, queueSize, queueStandsOnce};
+ghost use Rattle.form_dpc.specs.Queue.{chainEnd, queuedAt, queueSize, queueStandsAs};
 use super::dpc;
 use chains::Chain;
 use dpcs::record;
@@ -50,11 +50,13 @@ fn queue_size(w: &[u64]) -> u64
     0
 }
 
-// Document 01: each chain holds exactly its members once, of the DPC queue.
-pub fn queue_stands_once(w: &[u64]) -> bool
-    ensures { λ r. ⌜ r ≡ queueStandsOnce (now (w .entry)) ⌝ }
+// Document 01: each chain holds exactly its members once, of the DPC queue. `queued` is how many DPCs are queued.
+pub fn queue_stands_once(w: &[u64], queued: u64) -> bool
+    ensures { λ r. ⌜ r ≡ queueStandsAs (now (w .entry)) queued ⌝ }
 {
     let size = queue_size(w);
-    let n = dpc::phase_count(w, dpc::QUEUED);
-    size == n + 1
+    if size == 0 {
+        return false;
+    }
+    size - 1 == queued
 }

@@ -135,14 +135,14 @@ module _ (w : List ℕ) (s : State) (a : Agree w s) (v : Form s) where
           )
 
   pub starts-pass : startsPass w ≡ true
-  unfolding startsPass
+  unfolding startsPass activeNamed
   starts-pass =
       simp (
         le-ltb 1 (activeCount w) (omega (arith, active-count w s holder active a, v .queueing .one-active)),
         eq-eqb (getD w 16 0) (getD w 18 0 + activeCount w)
             (omega (arith, a .numbers 16 (s .dpcs .counters .started) refl, a .numbers 18 (s .dpcs .counters .restored) refl, active-count w s holder active a, v .queueing .starts)),
-        active-named,
       )
+      active-named
 
   pub returns-pass : returnsPass w ≡ true
   unfolding returnsPass

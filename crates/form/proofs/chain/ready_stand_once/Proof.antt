@@ -1,7 +1,4 @@
-use denote.Ref.{now}
-use native.Mathlib.Omega.{arith}
-use Rattle.form.specs.Chain.{readyStandOnce}
-use Rattle.form.proofs.FormLaws.{state-few}
+use Rattle.form_dpc.proofs.FormDpcLaws.{none-over, one-over}
 use borrow.Author.Needs.{needs}
 use Rattle.form.proofs.chain.ready_stand_once.Statement.{statement}
 use Rattle.form.proofs.chain.ready_stand_once.Tie as tie
@@ -9,16 +6,14 @@ use Rattle.form.proofs.chain.ready_stand_once.Tie as tie
 ready-size-requires : tie.Need-ready-size-requires
 ready-size-requires c κs = search needs
 
-state-count-requires : tie.Need-state-count-requires
-state-count-requires c κs = search needs
-
-add-result : tie.Need-add-result
-add-result c = omega (arith, c .state-count .ensures, state-few (now (c .before .before .before .args .w)) 2)
-
 returns : tie.Need-returns
-unfolding readyStandOnce
-returns c = cc
+returns c = cc (none-over (c .before .ready-size .result) (c .before .before .before .args .ready) (c .if1 .taken))
+
+sub-result : tie.Need-sub-result
+sub-result c = search needs
+
+returns-2 : tie.Need-returns-2
+returns-2 c = cc (one-over (c .before .ready-size .result) (c .before .before .before .args .ready) (c .if1 .left))
 
 pub ready-stand-once-spec : {M : Type 1} → statement M
-ready-stand-once-spec =
-    tie.close (tie.spec ready-size-requires state-count-requires add-result returns)
+ready-stand-once-spec = tie.close (tie.spec ready-size-requires returns sub-result returns-2)

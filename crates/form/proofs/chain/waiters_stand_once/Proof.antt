@@ -1,7 +1,4 @@
-use denote.Ref.{now}
-use native.Mathlib.Omega.{arith}
-use Rattle.form.specs.Chain.{waitersStandOnce}
-use Rattle.form.proofs.FormLaws.{state-few}
+use Rattle.form_dpc.proofs.FormDpcLaws.{none-over, one-over}
 use borrow.Author.Needs.{needs}
 use Rattle.form.proofs.chain.waiters_stand_once.Statement.{statement}
 use Rattle.form.proofs.chain.waiters_stand_once.Tie as tie
@@ -12,17 +9,15 @@ waiters-chain-requires c κs = search needs
 chain-size-requires : tie.Need-chain-size-requires
 chain-size-requires c κs = search needs
 
-state-count-requires : tie.Need-state-count-requires
-state-count-requires c κs = search needs
-
-add-result : tie.Need-add-result
-add-result c = omega (arith, c .state-count .ensures, state-few (now (c .before .before .before .before .args .w)) 3)
-
 returns : tie.Need-returns
-unfolding waitersStandOnce
-returns c = cc
+returns c = cc (none-over (c .before .chain-size .result) (c .before .before .before .before .args .waiting) (c .if1 .taken))
+
+sub-result : tie.Need-sub-result
+sub-result c = search needs
+
+returns-2 : tie.Need-returns-2
+returns-2 c = cc (one-over (c .before .chain-size .result) (c .before .before .before .before .args .waiting) (c .if1 .left))
 
 pub waiters-stand-once-spec : {M : Type 1} → statement M
 waiters-stand-once-spec =
-    tie.close
-    (tie.spec waiters-chain-requires chain-size-requires state-count-requires add-result returns)
+    tie.close (tie.spec waiters-chain-requires chain-size-requires returns sub-result returns-2)

@@ -2,19 +2,19 @@ use denote.Ref.{now}
 use mathlib.Core.Path.{_≡_, _∙_, sym}
 use native.Mathlib.Omega.{arith}
 use Prim.Native.Nat.{_+_, _≤_}
+use borrow.Author.Needs.{needs}
 use borrow.Author.Tests.{not-true, not-false}
 use Rattle.dpcs.proofs.RecordLaws.{count-most}
 use Rattle.form_dpc.specs.Dpc.{dpcsIn, dpcsPass}
-use Rattle.form_dpc.proofs.FormDpcLaws.{dpcs-none, dpcs-stop, dpcs-more}
-use borrow.Author.Needs.{needs}
+use Rattle.form_dpc.proofs.FormDpcLaws.{dpcs-none, dpcs-stop, dpcs-more, Counting, counting-none, counting-fits, counting-more, counting-all, seen-none, seen-made}
 use Rattle.form_dpc.proofs.dpc.dpcs_pass.Statement.{statement}
 use Rattle.form_dpc.proofs.dpc.dpcs_pass.Tie as tie
 
 abbrev Inv-loop : tie.InvT-loop
-Inv-loop w base i₀ left₀ i left = (i + left ≤ 4096) × (dpcsIn left w base i ≡ dpcsPass w)
+Inv-loop w base i₀ queued₀ running₀ returning₀ left₀ i queued running returning left = (i + left ≤ 4096) × (dpcsIn left w base i ≡ dpcsPass w) × Counting w base i left queued 1 × Counting w base i left running 2 × Counting w base i left returning 3
 
 abbrev μ-loop : tie.MeasureT-loop
-μ-loop w base i₀ left₀ i left = left
+μ-loop w base i₀ queued₀ running₀ returning₀ left₀ i queued running returning left = left
 
 dpcs-base-requires : tie.Need-dpcs-base-requires Inv-loop μ-loop
 dpcs-base-requires c κs = search needs
@@ -24,16 +24,37 @@ count-requires c κs = search needs
 
 loop-holds : tie.Need-loop-holds Inv-loop μ-loop
 unfolding dpcsPass
-loop-holds c = (omega (arith, count-most (now (c .before .before .before .args .w)), c .count .ensures), cc)
+loop-holds c = (omega (arith, count-most (now (c .before .before .before .args .w)), c .count .ensures), cc, counting-none _ _ _ _ (c .before .dpcs-base .ensures) (c .count .ensures), counting-none _ _ _ _ (c .before .dpcs-base .ensures) (c .count .ensures), counting-none _ _ _ _ (c .before .dpcs-base .ensures) (c .count .ensures))
 
 dpc-passes-requires : tie.Need-dpc-passes-requires Inv-loop μ-loop
 dpc-passes-requires c κs = search needs
 
 returns : tie.Need-returns Inv-loop μ-loop
-returns c = sym (dpcs-stop _ _ _ _ (c .before .before .loop-test .taken) (sym (c .before .dpc-passes .ensures) ∙ not-true _ (c .if1 .taken))) ∙ c .before .before .before .loop .inv .1
+returns c = seen-none _ (sym (c .before .before .before .loop .inv .1) ∙ dpcs-stop _ _ _ _ (c .before .before .loop-test .taken) (sym (c .before .dpc-passes .ensures) ∙ not-true _ (c .if1 .taken)))
+
+entry-at-requires : tie.Need-entry-at-requires Inv-loop μ-loop
+entry-at-requires c κs = search needs
+
+one-if-requires : tie.Need-one-if-requires Inv-loop μ-loop
+one-if-requires c κs = search needs
+
+add-queued : tie.Need-add-queued Inv-loop μ-loop
+add-queued c = omega (arith, counting-fits _ _ _ _ _ _ _ _ (c .before .before .before .before .loop-test .taken) (c .one-if .ensures) (c .before .before .before .before .before .loop .inv .2))
+
+one-if-requires-2 : tie.Need-one-if-requires-2 Inv-loop μ-loop
+one-if-requires-2 c κs = search needs
+
+add-running : tie.Need-add-running Inv-loop μ-loop
+add-running c = omega (arith, counting-fits _ _ _ _ _ _ _ _ (c .before .before .before .before .before .loop-test .taken) (c .one-if2 .ensures) (c .before .before .before .before .before .before .loop .inv .3))
+
+one-if-requires-3 : tie.Need-one-if-requires-3 Inv-loop μ-loop
+one-if-requires-3 c κs = search needs
+
+add-returning : tie.Need-add-returning Inv-loop μ-loop
+add-returning c = omega (arith, counting-fits _ _ _ _ _ _ _ _ (c .before .before .before .before .before .before .loop-test .taken) (c .one-if3 .ensures) (c .before .before .before .before .before .before .before .loop .inv .4))
 
 add-i : tie.Need-add-i Inv-loop μ-loop
-add-i c = search needs
+add-i c = omega (arith, c .before .before .before .before .before .before .before .loop .inv .0)
 
 sub-left : tie.Need-sub-left Inv-loop μ-loop
 sub-left c = search needs
@@ -42,10 +63,13 @@ loop-less : tie.Need-loop-less Inv-loop μ-loop
 loop-less c = search needs
 
 loop-again : tie.Need-loop-again Inv-loop μ-loop
-loop-again c = (search needs, cc (dpcs-more (c .before .before .before .loop .left) (now (c .before .before .before .before .before .before .before .args .w)) (c .before .before .before .before .before .dpcs-base .result) (c .before .before .before .loop .i) (c .before .before .loop-test .taken) (sym (c .before .dpc-passes .ensures) ∙ not-false _ (c .if1 .left))))
+loop-again c = (omega (arith, c .before .before .before .before .before .before .before .loop .inv .0), cc (dpcs-more (c .before .before .before .before .before .before .before .loop .left) (now (c .before .before .before .before .before .before .before .before .before .before .before .args .w)) (c .before .before .before .before .before .before .before .before .before .dpcs-base .result) (c .before .before .before .before .before .before .before .loop .i) (c .before .before .before .before .before .before .loop-test .taken) (sym (c .before .before .before .before .before .dpc-passes .ensures) ∙ not-false _ (c .before .before .before .before .if1 .left))), counting-more _ _ _ _ _ _ _ _ (c .before .before .before .before .before .before .loop-test .taken) (c .before .before .before .entry-at .ensures) (c .before .before .one-if .ensures) (c .before .before .before .before .before .before .before .loop .inv .2), counting-more _ _ _ _ _ _ _ _ (c .before .before .before .before .before .before .loop-test .taken) (c .before .before .before .entry-at .ensures) (c .before .one-if2 .ensures) (c .before .before .before .before .before .before .before .loop .inv .3), counting-more _ _ _ _ _ _ _ _ (c .before .before .before .before .before .before .loop-test .taken) (c .before .before .before .entry-at .ensures) (c .one-if3 .ensures) (c .before .before .before .before .before .before .before .loop .inv .4))
+
+add-t12 : tie.Need-add-t12 Inv-loop μ-loop
+add-t12 c = omega (arith, c .before .loop .inv .3 .few, c .before .loop .inv .4 .few)
 
 returns-2 : tie.Need-returns-2 Inv-loop μ-loop
-returns-2 c = sym (dpcs-none _ _ _ _ (c .loop-test .left)) ∙ c .before .loop .inv .1
+returns-2 c = seen-made _ _ _ _ (sym (c .before .loop .inv .1) ∙ dpcs-none _ _ _ _ (c .loop-test .left)) (counting-all _ _ _ _ _ _ (c .loop-test .left) (c .before .loop .inv .2)) (counting-all _ _ _ _ _ _ (c .loop-test .left) (c .before .loop .inv .3)) (counting-all _ _ _ _ _ _ (c .loop-test .left) (c .before .loop .inv .4))
 
 pub dpcs-pass-spec : {M : Type 1} → statement M
 dpcs-pass-spec =
@@ -58,8 +82,16 @@ dpcs-pass-spec =
     loop-holds
     dpc-passes-requires
     returns
+    entry-at-requires
+    one-if-requires
+    add-queued
+    one-if-requires-2
+    add-running
+    one-if-requires-3
+    add-returning
     add-i
     sub-left
     loop-less
     loop-again
+    add-t12
     returns-2)

@@ -1,7 +1,6 @@
-use denote.Ref.{now}
+use Prim.Native.Nat.{_+_, _-_}
 use native.Mathlib.Omega.{arith}
-use Rattle.form_dpc.specs.Queue.{queueStandsOnce}
-use Rattle.form_dpc.proofs.FormDpcLaws.{phase-few}
+use Rattle.form_dpc.proofs.FormDpcLaws.{none-over, one-over}
 use borrow.Author.Needs.{needs}
 use Rattle.form_dpc.proofs.queue.queue_stands_once.Statement.{statement}
 use Rattle.form_dpc.proofs.queue.queue_stands_once.Tie as tie
@@ -9,16 +8,14 @@ use Rattle.form_dpc.proofs.queue.queue_stands_once.Tie as tie
 queue-size-requires : tie.Need-queue-size-requires
 queue-size-requires c κs = search needs
 
-phase-count-requires : tie.Need-phase-count-requires
-phase-count-requires c κs = search needs
-
-add-result : tie.Need-add-result
-add-result c = omega (arith, c .phase-count .ensures, phase-few (now (c .before .before .before .args .w)) 1)
-
 returns : tie.Need-returns
-unfolding queueStandsOnce
-returns c = cc
+returns c = cc (none-over (c .before .queue-size .result) (c .before .before .before .args .queued) (c .if1 .taken))
+
+sub-result : tie.Need-sub-result
+sub-result c = search needs
+
+returns-2 : tie.Need-returns-2
+returns-2 c = cc (one-over (c .before .queue-size .result) (c .before .before .before .args .queued) (c .if1 .left))
 
 pub queue-stands-once-spec : {M : Type 1} → statement M
-queue-stands-once-spec =
-    tie.close (tie.spec queue-size-requires phase-count-requires add-result returns)
+queue-stands-once-spec = tie.close (tie.spec queue-size-requires returns sub-result returns-2)
