@@ -5,19 +5,24 @@ use mathlib.Core.List.{List}
 use mathlib.Core.Bool.{Bool, cond, true, false}
 use mathlib.Core.Path.{_≡_, refl, ap, _∙_}
 use lib.ListN.{getD}
-use lib.Dec.{eqb}
-use borrow.Author.Tests.{eq-eqb, ne-eqb, le-leb, lt-leb, not-true}
+use lib.Dec.{eqb, leb, ltb}
+use borrow.Author.Tests.{eq-eqb, ne-eqb, le-leb, lt-leb, ltb-false, not-true}
+use native.Mathlib.Decide.{ℕ-discrete}
+use Rattle.words.specs.Layout.{entryAt}
+use Rattle.objects.specs.Objects.{objectsBase, objectCount}
+use Rattle.form_dpc.specs.Place.{keyRises, Risen}
+use Rattle.form_dpc.specs.Timer.{dpcServes}
 use Rattle.words.specs.Layout as at
 use Rattle.chains.specs.declared.Chain.{Chain}
 use Rattle.chains.specs.Chain.{firstOf, nextOf}
 use Rattle.chains.specs.Ready.{readyChain, waitersChain}
 use Rattle.kernel.proofs.KernelLaws.{Limits, limits}
-use Rattle.form.specs.Header.{limitsPass}
+use Rattle.form.specs.Header.{limitsPass, countsPass, currentPasses, readyPasses, policyPasses, lifetimesPass, headerNumbers}
 use Rattle.threads.specs.Thread.{threadCount}
 use Rattle.threads.proofs.ThreadLaws.{count-small}
 use Rattle.form.specs.Thread.{hasState, threadPasses, threadsIn, threadsPass, oneIf, stateCountIn, stateCount, threadsSeen}
 use Rattle.form.specs.declared.thread.Seen.{Seen}
-use Rattle.form.specs.Object.{objectPasses, objectsIn}
+use Rattle.form.specs.Object.{objectNumbers, ownerLives, objectPasses, objectsIn, objectsPass}
 use Rattle.form_dpc.specs.Queue.{chainEnd}
 use Rattle.form.specs.Chain.{sequenceAt, sequencesIn, memberPasses, chainIn, chainSize, waitersStandAs, waitersStandOnce, bitPasses, queueSize, queuesIn, readyStandAs, readyStandOnce}
 
@@ -143,6 +148,39 @@ pub objects-more : (m : ℕ) (w : List ℕ) (base i : ℕ) → 0 < m → objectP
 unfolding objectsIn
 objects-more zero w base i h e = absurd (omega arith)
 objects-more (suc m) w base i h e = simp (e, less-one m)
+
+objects-rise : (m : ℕ) (w : List ℕ) (base i : ℕ) → objectsIn m w base i ≡ true → (x : ℕ) → i ≤ x → x < i + m → keyRises w base x ≡ true
+unfolding objectsIn objectPasses
+objects-rise zero w base i e x l h = absurd (omega arith)
+objects-rise (suc m) w base i e x l h = go (objectNumbers w base i) (keyRises w base i) (cond (ownerLives w base i) (dpcServes w (entryAt base i)) false) refl e (objects-rise m w base (i + 1)) (ℕ-discrete x i)
+  where
+    go : (a b d : Bool) → keyRises w base i ≡ b → cond (cond a (cond b d false) false) (objectsIn m w base (i + 1)) false ≡ true
+        → (objectsIn m w base (i + 1) ≡ true → (y : ℕ) → i + 1 ≤ y → y < i + 1 + m → keyRises w base y ≡ true) → Dec (x ≡ i) → keyRises w base x ≡ true
+    go true true d f p ih (yes q) = cc
+    go true true true f p ih (no q) = ih p x (omega (arith, q)) (omega arith)
+    go true true false f p ih (no q) = let z : _≡_ {A = ℕ} 0 1 = cc in absurd (omega arith)
+    go true false d f p ih q = let z : _≡_ {A = ℕ} 0 1 = cc in absurd (omega arith)
+    go false b d f p ih q = let z : _≡_ {A = ℕ} 0 1 = cc in absurd (omega arith)
+
+objects-few : (w : List ℕ) → limitsPass w ≡ true → headerNumbers w ≡ true → getD w at.objects 0 ≤ 4096
+unfolding headerNumbers countsPass
+objects-few w l e =
+    go (ltb (getD w at.threads 0) 1) (ltb (getD w at.threadLimit 0) (getD w at.threads 0)) (ltb (getD w at.objectLimit 0) (getD w at.objects 0))
+    (leb (getD w at.dpcs 0) (getD w at.dpcLimit 0)) (cond (currentPasses w) (cond (readyPasses w) (cond (policyPasses w) (lifetimesPass w) false) false) false) refl e
+  where
+    go : (a b d f g : Bool) → ltb (getD w at.objectLimit 0) (getD w at.objects 0) ≡ d
+        → cond (cond a false (cond b false (cond d false f))) g false ≡ true → getD w at.objects 0 ≤ 4096
+    go false false false f g q h = omega (arith, ltb-false (getD w at.objectLimit 0) (getD w at.objects 0) q, limits-pass w l)
+    go false false true f g q h = let z : _≡_ {A = ℕ} 0 1 = cc in absurd (omega arith)
+    go false true d f g q h = let z : _≡_ {A = ℕ} 0 1 = cc in absurd (omega arith)
+    go true b d f g q h = let z : _≡_ {A = ℕ} 0 1 = cc in absurd (omega arith)
+
+-- what the pass of the DPCs asks of the objects
+pub risen : (w : List ℕ) → limitsPass w ≡ true → headerNumbers w ≡ true → objectsPass w ≡ true → Risen w
+unfolding objectsPass objectCount
+risen w l h e =
+    let few = objects-few w l h in
+    record { few = few; rise = λ i k. objects-rise (getD w at.objects 0) w (objectsBase w) 0 (simp (le-leb (getD w at.objects 0) 4096 few) at e) i (omega arith) (omega arith) }
 
 -- ---- the waiters' sequences
 

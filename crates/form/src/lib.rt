@@ -1,6 +1,7 @@
 // Whether lent words are in form, by the sentence "Words are in form if .." of document 01, section "Limits". Each of its
 // clauses is a test of its own, named here. What is about one record is tested record by record, in one pass of each table, which
-// also counts the threads by state and the DPCs by phase, for the tests of the chains and of the counts of DPC work.
+// also counts the threads by state and the DPCs by phase, for the tests of the chains and of the counts of DPC work. The DPCs' addresses
+// are held against the objects' keys by going along both tables, which rise.
 //
 //   long enough                      header::is_long_enough
 //   limits pass their checks         header::limits_pass

@@ -1,1 +1,2 @@
 pub mod FormDpcLaws
+pub mod PastLaws

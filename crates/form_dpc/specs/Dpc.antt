@@ -1,7 +1,7 @@
 -- The DPCs in form. Word 0 of a DPC's record is its address, 1 its phase (0 idle, 1 queued, 2 running, 3 returning), 3 the
 -- inserted timer that has it, 4 the architecture, 5 to 8 the backing, 11 the work's sequence, 14 its origin (0 no
 -- timer), 15 to 20 the timer that put it into the queue, the last of them periodic.
-use mathlib.Core.Bool.{Bool, cond, true, false}
+use mathlib.Core.Bool.{Bool, cond, true, false, not}
 use Prim.Native.Nat.{ℕ, zero, suc, _+_}
 use mathlib.Core.List.{List}
 use lib.ListN.{getD}
@@ -9,7 +9,7 @@ use lib.Dec.{eqb, leb, ltb}
 use Rattle.words.specs.Layout as at
 use Rattle.words.specs.Layout.{entryAt}
 use Rattle.tables.specs.Table.{keyAt}
-use Rattle.objects.specs.Objects.{dpcsBase, objectFound, placeOf}
+use Rattle.objects.specs.Objects.{objectsBase, dpcsBase, objectFound, placeOf}
 use Rattle.images.specs.Place.{architectureOf, dpcSize}
 use Rattle.dpcs.specs.Record.{dpcCount}
 use Rattle.form_dpc.specs.declared.dpc.Seen.{Seen}
@@ -46,6 +46,11 @@ dpcNumbers w place = cond (ltb 3 (getD w (place + 1) 0)) false (cond (dpcPlaced 
 unfoldable pub addressOnce : List ℕ → ℕ → ℕ → Bool
 addressOnce w base i = cond (keyRises w base i) (eqb (objectFound w (keyAt w base i)) 0) false
 
+-- the same, where `j` is how many objects have keys below the address
+unfoldable pub addressAt : List ℕ → ℕ → ℕ → ℕ → Bool
+addressAt w base i j =
+    cond (keyRises w base i) (cond (leb (getD w at.objects 0) j) true (not (eqb (keyAt w (objectsBase w) j) (keyAt w base i)))) false
+
 -- document 01: no queued or active work bears a sequence not yet given
 unfoldable pub sequenceGiven : List ℕ → ℕ → Bool
 sequenceGiven w place =
@@ -62,6 +67,11 @@ unfoldable pub dpcPasses : List ℕ → ℕ → ℕ → Bool
 dpcPasses w base i =
     let place = entryAt base i in
     cond (dpcNumbers w place) (cond (addressOnce w base i) (cond (sequenceGiven w place) (namedRightly w place) false) false) false
+
+unfoldable pub dpcPassesAt : List ℕ → ℕ → ℕ → ℕ → Bool
+dpcPassesAt w base i j =
+    let place = entryAt base i in
+    cond (dpcNumbers w place) (cond (addressAt w base i j) (cond (sequenceGiven w place) (namedRightly w place) false) false) false
 
 -- the `m` DPCs from place `i` on pass
 unfoldable pub dpcsIn : ℕ → List ℕ → ℕ → ℕ → Bool

@@ -1,15 +1,28 @@
 -- Keys along a table, and where a timer or a DPC may stand.
 use mathlib.Core.Bool.{Bool, cond, true, false}
-use Prim.Native.Nat.{ℕ, _+_, _-_}
+use mathlib.Core.Path.{_≡_}
+use Prim.Native.Nat.{ℕ, zero, suc, _+_, _-_, _≤_, _<_}
 use mathlib.Core.List.{List}
 use lib.ListN.{getD}
 use lib.Dec.{eqb, ltb}
+use Rattle.words.specs.Layout as at
 use Rattle.tables.specs.Table.{keyAt}
+use Rattle.objects.specs.Objects.{objectsBase}
 use Rattle.images.specs.Place.{architectureOf, backingOf, locationRefusal}
 
 -- document 01: no key stands twice, for keys rise along each table
 unfoldable pub keyRises : List ℕ → ℕ → ℕ → Bool
 keyRises w base i = cond (eqb i 0) true (ltb (keyAt w base (i - 1)) (keyAt w base i))
+
+-- the first of the `m` records from place `i` on whose key is not below `key`, or the place behind them
+unfoldable pub pastIn : ℕ → List ℕ → ℕ → ℕ → ℕ → ℕ
+pastIn zero w base i key = i
+pastIn (suc m) w base i key = cond (ltb (keyAt w base i) key) (pastIn m w base (i + 1) key) i
+
+-- the objects are few enough, and their keys rise
+pub record Risen (w : List ℕ) : Type 0 where
+  pub few : getD w at.objects 0 ≤ 4096
+  pub rise : (i : ℕ) → i < getD w at.objects 0 → keyRises w (objectsBase w) i ≡ true
 
 -- words that say nothing hold 0: the mapped bytes of an image
 unfoldable pub mappedPasses : ℕ → ℕ → Bool

@@ -1,6 +1,7 @@
 // The DPCs in form: each record's numbers, its address, its work and its timer; and how many have a phase.
 ghost use mathlib.Core.Path.{_≡_};
-ghost use Rattle.form_dpc.specs.Dpc.{dpcPlaced, namesNoTimer, originPasses, workPasses, dpcNumbers, addressOnce, sequenceGiven, namedRightly, dpcPasses, dpcsSeen, hasPhase, phaseOne};
+ghost use Rattle.form_dpc.specs.Place.{Risen};
+ghost use Rattle.form_dpc.specs.Dpc.{dpcPlaced, namesNoTimer, originPasses, workPasses, dpcNumbers, addressAt, sequenceGiven, namedRightly, dpcPassesAt, dpcsSeen, hasPhase, phaseOne};
 use super::timer;
 use dpcs::record;
 use words::layout;
@@ -81,14 +82,18 @@ fn numbers_pass(w: &[u64], at: usize) -> bool
     work_passes(w, at)
 }
 
-// Document 01: no key stands twice, of a DPC: neither in its own table nor in that of the objects.
-fn address_stands_once(w: &[u64], base: usize, i: u64) -> bool
-    ensures { λ r. ⌜ r ≡ addressOnce (now (w .entry)) base i ⌝ }
+// Document 01: no key stands twice, of a DPC: neither in its own table nor in that of the objects, of which `j` have keys below its
+// address.
+fn address_stands_once(w: &[u64], base: usize, i: u64, j: u64) -> bool
+    ensures { λ r. ⌜ r ≡ addressAt (now (w .entry)) base i j ⌝ }
 {
     if !super::key_rises(w, base, i) {
         return false;
     }
-    objects::find_object(w, tables::key_at(w, base, i)) == 0
+    if words::get(w, layout::OBJECTS) <= j {
+        return true;
+    }
+    tables::key_at(w, objects::objects_base(w), j) != tables::key_at(w, base, i)
 }
 
 // Document 01: no queued or active work bears a sequence not yet given. They are given from 1 on, one an acceptance.
@@ -120,14 +125,14 @@ fn is_named_rightly(w: &[u64], at: usize) -> bool
     timer::has_dpc(w, place, words::get(w, at))
 }
 
-fn dpc_passes(w: &[u64], base: usize, i: u64) -> bool
-    ensures { λ r. ⌜ r ≡ dpcPasses (now (w .entry)) base i ⌝ }
+fn dpc_passes(w: &[u64], base: usize, i: u64, j: u64) -> bool
+    ensures { λ r. ⌜ r ≡ dpcPassesAt (now (w .entry)) base i j ⌝ }
 {
     let at = layout::entry_at(base, i);
     if !numbers_pass(w, at) {
         return false;
     }
-    if !address_stands_once(w, base, i) {
+    if !address_stands_once(w, base, i, j) {
         return false;
     }
     if !sequence_is_given(w, at) {
@@ -159,18 +164,23 @@ pub struct Seen {
     pub returning: u64,
 }
 
-// The one pass of the DPCs: each is tested and counted.
+// The one pass of the DPCs: each is tested and counted. The objects' keys, which rise, are gone along beside the addresses.
 pub fn dpcs_pass(w: &[u64]) -> Seen
+    requires { ⌜ Risen (now w) ⌝ }
     ensures { λ r. ⌜ r ≡ dpcsSeen (now (w .entry)) ⌝ }
 {
     let base = objects::dpcs_base(w);
+    let others = objects::objects_base(w);
+    let n = words::get(w, layout::OBJECTS);
     let mut i: u64 = 0;
+    let mut j: u64 = 0;
     let mut queued: u64 = 0;
     let mut running: u64 = 0;
     let mut returning: u64 = 0;
     let mut left = record::count(w);
     while 0 < left {
-        if !dpc_passes(w, base, i) {
+        j = super::past(w, others, n, j, tables::key_at(w, base, i));
+        if !dpc_passes(w, base, i, j) {
             return Seen {
                 pass: false,
                 queued: 0,

@@ -1,7 +1,7 @@
 // The timers and the DPCs in form: what `form` tests of them, clause by clause of document 01's sentence.
 ghost use mathlib.Core.Path.{_≡_};
-ghost use Prim.Native.Nat.{_≤_};
-ghost use Rattle.form_dpc.specs.Place.{keyRises, mappedPasses, located};
+ghost use Prim.Native.Nat.{_≤_, _-_};
+ghost use Rattle.form_dpc.specs.Place.{keyRises, pastIn, mappedPasses, located};
 
 pub mod counts;
 pub mod dpc;
@@ -16,6 +16,20 @@ pub fn key_rises(w: &[u64], base: usize, i: u64) -> bool
         return true;
     }
     tables::key_at(w, base, i - 1) < tables::key_at(w, base, i)
+}
+
+// The first record of a table of `n`, from record `from` on, whose key is not below `key`; `n` where there is none.
+fn past(w: &[u64], base: usize, n: u64, from: u64, key: u64) -> u64
+    ensures { λ r. ⌜ r ≡ pastIn (n - from) (now (w .entry)) base from key ⌝ }
+{
+    let mut i = from;
+    while i < n {
+        if key <= tables::key_at(w, base, i) {
+            return i;
+        }
+        i += 1;
+    }
+    i
 }
 
 // Words that say nothing hold 0: the mapped bytes of an image.

@@ -2,7 +2,7 @@ use mathlib.Core.Path.{_∙_, sym}
 use borrow.Author.Tests.{not-true, not-false}
 use Rattle.form.specs.Form.{inForm}
 use Rattle.form_dpc.proofs.FormDpcLaws as dpc
-use Rattle.form.proofs.FormLaws.{seen-pass, waiters-as, ready-as}
+use Rattle.form.proofs.FormLaws.{seen-pass, waiters-as, ready-as, risen}
 use borrow.Author.Needs.{needs}
 use Rattle.form.proofs.in_form.Statement.{statement}
 use Rattle.form.proofs.in_form.Tie as tie
@@ -43,7 +43,7 @@ unfolding inForm
 returns-5 c = simp (sym (c .before .before .before .before .before .before .before .before .before .before .limits-pass .ensures) ∙ not-false _ (c .before .before .before .before .before .before .before .before .before .if1 .left), sym (c .before .before .before .before .before .before .before .before .is-long-enough .ensures) ∙ not-false _ (c .before .before .before .before .before .before .before .if2 .left), sym (c .before .before .before .before .before .before .numbers-pass .ensures) ∙ not-false _ (c .before .before .before .before .before .if3 .left), sym (seen-pass _ _ (c .before .before .before .before .threads-pass .ensures)) ∙ not-false _ (c .before .before .if4 .left), sym (c .before .objects-pass .ensures) ∙ not-true _ (c .if5 .taken))
 
 dpcs-pass-requires : tie.Need-dpcs-pass-requires
-dpcs-pass-requires c κs = search needs
+dpcs-pass-requires c κs = risen _ (sym (c .before .before .before .before .before .before .before .before .before .before .limits-pass .ensures) ∙ not-false _ (c .before .before .before .before .before .before .before .before .before .if1 .left)) (sym (c .before .before .before .before .before .before .numbers-pass .ensures) ∙ not-false _ (c .before .before .before .before .before .if3 .left)) (sym (c .before .objects-pass .ensures) ∙ not-false _ (c .if5 .left))
 
 returns-6 : tie.Need-returns-6
 unfolding inForm
