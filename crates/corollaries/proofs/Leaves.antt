@@ -39,9 +39,10 @@ use Rattle.dpc.specs.Calls.{Started}
 use Rattle.dpc.specs.declared.calls.WorkAnswer.the-variants as work
 use Rattle.form.specs.Form.{inForm}
 use Rattle.call_answers.specs.Told.{told, toldWith, toldWork}
-use Rattle.calls.specs.Guard.{guarded, guardedDispatch, guardedStart}
-use Rattle.calls.specs.Called.{called}
-use Rattle.calls.specs.Run.{answered, left}
+use Rattle.calls.specs.Guard.{guarded, guardedDispatch, guardedStart, guardedImage, imageRefused}
+use Rattle.calls.specs.Images.{Imaged, imaged, timerImaged, dpcImaged}
+use Rattle.calls.specs.Called.{called, readCalled}
+use Rattle.calls.specs.Run.{answered, left, imageTold}
 use Rattle.model.specs.Reads.{blank}
 use Rattle.model.specs.Call.{Call}
 use Rattle.model.specs.Call as call
@@ -128,6 +129,24 @@ module _ (w : List ℕ) where
       → (called w (call.Dispatch n) out .words ≡ w) × (called w (call.Dispatch n) out .output ≡ out)
   unfolding called guardedDispatch
   refused-dispatch n out = one-of out (inForm w) _ _ (dispatches out) (stops out) .same
+
+  image-leaves : (out image : List ℕ) (size : ℕ) (short unknown : Bool)
+      → let i = cond short (imaged (answer.Refused 27) out) (cond unknown (imaged (answer.Refused 2) out) (imaged (answer.Count size) image)) in
+      isRefused (imageTold i) ≡ true → i .output ≡ out
+  image-leaves out image size true unknown e = refl
+  image-leaves out image size false true e = refl
+  image-leaves out image size false false e = absurd (not-both (sym e))
+
+  -- and so does a refused image
+  pub refused-timer-image : (address n : ℕ) (out : List ℕ) → isRefused (imageTold (called w (call.Reads (call.TimerImage address n)) out)) ≡ true
+      → called w (call.Reads (call.TimerImage address n)) out .output ≡ out
+  unfolding called readCalled guardedImage timerImaged
+  refused-timer-image address n out = image-leaves out _ _ (imageRefused w out) (eqb (placeOf w 2 address) 0)
+
+  pub refused-dpc-image : (address n : ℕ) (out : List ℕ) → isRefused (imageTold (called w (call.Reads (call.DpcImage address n)) out)) ≡ true
+      → called w (call.Reads (call.DpcImage address n)) out .output ≡ out
+  unfolding called readCalled guardedImage dpcImaged
+  refused-dpc-image address n out = image-leaves out _ _ (imageRefused w out) (eqb (numberOf w address) 0)
 
   record StartLeaves (x : Started) : Type 0 where
     same : isRefused (toldWork (x .answer)) ≡ true → x .words ≡ w
