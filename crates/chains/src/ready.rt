@@ -10,16 +10,16 @@ pub fn ready_chain(p: u64) -> Chain
 {
     if p <= 31 {
         return Chain {
-            first: 32 + (p as u32),
-            last: 64 + (p as u32),
-            link: 98,
+            first: layout::READY_FIRST + (p as u32),
+            last: layout::READY_LAST + (p as u32),
+            link: layout::READY_LINK,
             stride: 160,
         };
     }
     Chain {
-        first: 32,
-        last: 64,
-        link: 98,
+        first: layout::READY_FIRST,
+        last: layout::READY_LAST,
+        link: layout::READY_LINK,
         stride: 160,
     }
 }
@@ -29,9 +29,9 @@ pub fn waiters_chain() -> Chain
     ensures { λ r. ⌜ r ≡ waitersChain ⌝ }
 {
     Chain {
-        first: 21,
-        last: 22,
-        link: 99,
+        first: layout::WAITERS_FIRST,
+        last: layout::WAITERS_LAST,
+        link: layout::WAITERS_LINK,
         stride: 160,
     }
 }

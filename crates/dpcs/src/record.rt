@@ -55,9 +55,9 @@ pub fn queue_chain(w: &[u64]) -> Chain
 {
     let base = objects::dpcs_base(w);
     Chain {
-        first: 23,
-        last: 24,
-        link: (base - 30) as u32,
+        first: layout::QUEUE_FIRST,
+        last: layout::QUEUE_LAST as u32,
+        link: (base - layout::QUEUE_LINK_BEFORE) as u32,
         stride: 32,
     }
 }

@@ -1,16 +1,16 @@
--- Records moved up or down by one: what each word of a record is afterwards, and that nothing else changes.
+-- Records moved up by one: what each word of a record is afterwards, and that nothing else changes.
 use Prim.Native.Nat.{ℕ, zero, suc, _+_, _-_, _*_, _≤_, _<_}
 use mathlib.Core.List.{List}
 use mathlib.Core.Bool.{Bool, true, false, cond}
 use mathlib.Core.Path.{_≡_, refl, sym, ap, _∙_, subst}
 use native.Mathlib.Omega.{arith}
 use native.Mathlib.Decide.{ℕ-discrete}
-use borrow.Author.Tests.{le-ltb, lt-leb}
-use lib.Dec.{leb, ltb}
+use borrow.Author.Tests.{le-ltb}
+use lib.Dec.{ltb}
 use lib.ListN.{getD, set, length, length-set}
 use lib.Seq.{getD-set-same, getD-set-other}
 use Rattle.words.specs.Layout.{entryAt}
-use Rattle.tables.specs.Table.{raised, lowered, gapOpened, gapClosed}
+use Rattle.tables.specs.Table.{raised, gapOpened}
 use Rattle.tables.proofs.TableLaws.{entry-is}
 use Rattle.history_tables.specs.Tables.{Same}
 
@@ -53,35 +53,6 @@ raised-moved (suc m) w end h long j lo hi = go (ℕ-discrete j (end - 1)) (λ n.
         ∙ ap (λ (i : ℕ). getD w₁ (i + 32) 0) e ∙ read-same w (end - 1 + 32) (getD w (end - 1) 0) (omega arith) ∙ ap (λ (i : ℕ). getD w i 0) (sym e)
     go (no n) ih = ih n ∙ read-other w (end - 1 + 32) j (getD w (end - 1) 0) (λ e. omega arith)
 
--- ---- down
-
-pub length-lowered : (m : ℕ) (w : List ℕ) (start : ℕ) → length (lowered m w start) ≡ length w
-unfolding lowered
-length-lowered zero w start = refl
-length-lowered (suc m) w start = length-lowered m (set w start (getD w (start + 32) 0)) (start + 1) ∙ length-set w start (getD w (start + 32) 0)
-
-lowered-outside : (m : ℕ) (R : ℕ → Type 0) (w : List ℕ) (start : ℕ) → ((j : ℕ) → start ≤ j → j < start + m → R j → ⊥) → Same R w (lowered m w start)
-unfolding lowered
-lowered-outside zero R w start far j r = refl
-lowered-outside (suc m) R w start far j r =
-    lowered-outside m R (set w start (getD w (start + 32) 0)) (start + 1) (λ i a b q. far i (omega arith) (omega arith) q) j r
-    ∙ set-outside R w start (getD w (start + 32) 0) (λ q. far start (omega arith) (omega arith) q) j r
-
-lowered-moved : (m : ℕ) (w : List ℕ) (start : ℕ) → start + m ≤ length w → (j : ℕ) → start ≤ j → j < start + m → getD (lowered m w start) j 0 ≡ getD w (j + 32) 0
-unfolding lowered
-lowered-moved zero w start long j lo hi = absurd (omega arith)
-lowered-moved (suc m) w start long j lo hi = go (ℕ-discrete j start) (λ n.
-    lowered-moved m (set w start (getD w (start + 32) 0)) (start + 1) (omega (arith, length-set w start (getD w (start + 32) 0))) j (omega (arith, n)) (omega arith))
-  where
-    w₁ : List ℕ
-    w₁ = set w start (getD w (start + 32) 0)
-
-    go : Dec (j ≡ start) → ((j ≡ start → ⊥) → getD (lowered m w₁ (start + 1)) j 0 ≡ getD w₁ (j + 32) 0) → getD (lowered m w₁ (start + 1)) j 0 ≡ getD w (j + 32) 0
-    go (yes e) ih =
-        lowered-outside m (λ i. i ≡ j) w₁ (start + 1) (λ i a b q. omega arith) j refl
-        ∙ ap (λ (i : ℕ). getD w₁ i 0) e ∙ read-same w start (getD w (start + 32) 0) (omega arith) ∙ ap (λ (i : ℕ). getD w (i + 32) 0) (sym e)
-    go (no n) ih = ih n ∙ read-other w start (j + 32) (getD w (start + 32) 0) (λ e. omega arith)
-
 -- ---- room made at record `i` of `n`
 
 pub length-opened : (w : List ℕ) (base n i : ℕ) → length (gapOpened w base n i) ≡ length w
@@ -117,37 +88,3 @@ module _ (w : List ℕ) (base n i : ℕ) (low : base ≤ 1000000) (few : n ≤ 4
       ap (λ (v : List ℕ). getD v (base + 32 * suc j + k) 0) opened-is
       ∙ ap (λ (p : ℕ). getD (raised (32 * (n - i)) w (base + 32 * n)) p 0) (let z : base + 32 * suc j + k ≡ base + 32 * j + k + 32 = omega arith in z)
       ∙ raised-moved (32 * (n - i)) w (base + 32 * n) (omega arith) long (base + 32 * j + k) (omega arith) (omega arith)
-
--- ---- record `i` of `n` taken out
-
-pub length-closed : (w : List ℕ) (base n i : ℕ) → length (gapClosed w base n i) ≡ length w
-unfolding gapClosed
-length-closed w base n i = go (ltb 8191 n) (leb n i)
-  where
-    go : (a b : Bool) → length (cond a w (cond b w (lowered (32 * (n - i - 1)) w (entryAt base i)))) ≡ length w
-    go true b = refl
-    go false true = refl
-    go false false = length-lowered (32 * (n - i - 1)) w (entryAt base i)
-
-module _ (w : List ℕ) (base n i : ℕ) (low : base ≤ 1000000) (few : n ≤ 4096) (in-table : i < n) where
-  closed-is : gapClosed w base n i ≡ lowered (32 * (n - i - 1)) w (base + 32 * i)
-  unfolding gapClosed
-  closed-is =
-      ap (λ (b : Bool). cond b w (cond (leb n i) w (lowered (32 * (n - i - 1)) w (entryAt base i)))) (le-ltb 8191 n (omega arith))
-      ∙ ap (λ (b : Bool). cond b w (lowered (32 * (n - i - 1)) w (entryAt base i))) (lt-leb n i in-table)
-      ∙ ap (λ (j : ℕ). lowered (32 * (n - i - 1)) w j) (entry-is base i low (omega arith))
-
-  -- only records `i` to `n - 2` are written
-  pub closed-outside : (R : ℕ → Type 0) → ((j : ℕ) → base + 32 * i ≤ j → j + 32 < base + 32 * n → R j → ⊥) → Same R w (gapClosed w base n i)
-  closed-outside R far j r =
-      ap (λ (v : List ℕ). getD v j 0) closed-is
-      ∙ lowered-outside (32 * (n - i - 1)) R w (base + 32 * i) (λ k a b q. far k a (omega arith) q) j r
-
-  pub closed-before : (j k : ℕ) → j < i → k < 32 → getD (gapClosed w base n i) (base + 32 * j + k) 0 ≡ getD w (base + 32 * j + k) 0
-  closed-before j k h l = closed-outside (λ p. p ≡ base + 32 * j + k) (λ p a b q. omega arith) (base + 32 * j + k) refl
-
-  pub closed-behind : base + 32 * n ≤ length w → (j k : ℕ) → i ≤ j → suc j < n → k < 32 → getD (gapClosed w base n i) (base + 32 * j + k) 0 ≡ getD w (base + 32 * suc j + k) 0
-  closed-behind long j k h m l =
-      ap (λ (v : List ℕ). getD v (base + 32 * j + k) 0) closed-is
-      ∙ lowered-moved (32 * (n - i - 1)) w (base + 32 * i) (omega arith) (base + 32 * j + k) (omega arith) (omega arith)
-      ∙ ap (λ (p : ℕ). getD w p 0) (let z : base + 32 * j + k + 32 ≡ base + 32 * suc j + k = omega arith in z)

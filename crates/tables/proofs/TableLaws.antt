@@ -9,7 +9,7 @@ use lib.Dec.{eqb, ltb}
 use borrow.Author.Tests.{eq-eqb, ne-eqb, le-leb}
 use Rattle.words.specs.Layout.{entryAt}
 use Rattle.tables.specs.declared.Part.{Part}
-use Rattle.tables.specs.Table.{keyAt, narrowed, searchedIn, raised, lowered}
+use Rattle.tables.specs.Table.{keyAt, narrowed, searchedIn, raised}
 
 less-one : (k : ℕ) → suc k - 1 ≡ k
 less-one k = omega arith
@@ -58,16 +58,6 @@ pub raised-more : (m : ℕ) (w : List ℕ) (end : ℕ) → 0 < m → raised m w 
 unfolding raised
 raised-more zero w end h = absurd (omega arith)
 raised-more (suc m) w end h = simp (less-one m)
-
-pub lowered-none : (m : ℕ) (w : List ℕ) (start : ℕ) → m ≤ 0 → lowered m w start ≡ w
-unfolding lowered
-lowered-none zero w start h = refl
-lowered-none (suc m) w start h = absurd (omega arith)
-
-pub lowered-more : (m : ℕ) (w : List ℕ) (start : ℕ) → 0 < m → lowered m w start ≡ lowered (m - 1) (set w start (getD w (start + 32) 0)) (start + 1)
-unfolding lowered
-lowered-more zero w start h = absurd (omega arith)
-lowered-more (suc m) w start h = simp (less-one m)
 
 pub entry-is : (base i : ℕ) → base ≤ 1000000 → i ≤ 8192 → entryAt base i ≡ base + 32 * i
 unfolding entryAt

@@ -1,9 +1,9 @@
--- The search in a table, and the words after room is made or closed in it.
+-- The search in a table, and the words after room is made in it.
 use mathlib.Core.Bool.{cond}
 use Prim.Native.Nat.{ℕ, zero, suc, _+_, _-_, _*_, _/_}
 use mathlib.Core.List.{List}
 use lib.ListN.{getD, set}
-use lib.Dec.{eqb, leb, ltb}
+use lib.Dec.{eqb, ltb}
 use Rattle.words.specs.Layout.{entryAt}
 use Rattle.tables.specs.declared.Part.{Part}
 
@@ -30,15 +30,6 @@ unfoldable pub raised : ℕ → List ℕ → ℕ → List ℕ
 raised zero w end = w
 raised (suc m) w end = raised m (set w (end - 1 + 32) (getD w (end - 1) 0)) (end - 1)
 
--- the `m` words a record behind place `start` moved down by a record, the first first
-unfoldable pub lowered : ℕ → List ℕ → ℕ → List ℕ
-lowered zero w start = w
-lowered (suc m) w start = lowered m (set w start (getD w (start + 32) 0)) (start + 1)
-
 -- records `i` to `n - 1` moved up by one
 unfoldable pub gapOpened : List ℕ → ℕ → ℕ → ℕ → List ℕ
 gapOpened w base n i = cond (ltb 1000000 base) w (cond (ltb 8191 n) w (cond (ltb n i) w (raised (32 * (n - i)) w (entryAt base n))))
-
--- records `i + 1` to `n - 1` moved down by one
-unfoldable pub gapClosed : List ℕ → ℕ → ℕ → ℕ → List ℕ
-gapClosed w base n i = cond (ltb 8191 n) w (cond (leb n i) w (lowered (32 * (n - i - 1)) w (entryAt base i)))

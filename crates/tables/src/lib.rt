@@ -1,8 +1,8 @@
-// Tables of records of 32 words whose first words, the keys, rise: search by halves, and room made and closed for a record.
+// Tables of records of 32 words whose first words, the keys, rise: search by halves, room made for a record, and marked records taken out.
 ghost use mathlib.Core.Path.{_≡_};
 ghost use Prim.Native.Nat.{_+_, _≤_, _<_};
 ghost use Rattle.tables.specs.Compact.{isMarked, copied, moved, kept, keptTo, compacted, compactedTo};
-ghost use Rattle.tables.specs.Table.{keyAt, narrowed, position, raised, lowered, gapOpened, gapClosed};
+ghost use Rattle.tables.specs.Table.{keyAt, narrowed, position, raised, gapOpened};
 use words::layout;
 
 // The part of a table that a search has left: `size` records from `from` on.
@@ -73,21 +73,6 @@ fn raise(w: &mut [u64], end: usize, m: usize)
     }
 }
 
-// The `m` words that stand a record behind place `start` moved down by a record, the first first.
-fn lower(w: &mut [u64], start: usize, m: usize)
-    requires { ⌜ (m ≤ 2000000) × (start ≤ 2000000) ⌝ }
-    ensures { λ r. ⌜ now (w .exit) ≡ lowered m (now (w .entry)) start ⌝ }
-{
-    let mut i = start;
-    let mut left = m;
-    while 0 < left {
-        let word = words::get(w, i + 32);
-        words::put(w, i, word);
-        i += 1;
-        left -= 1;
-    }
-}
-
 // Records `i` to `n - 1` moved up by one.
 pub fn open_gap(w: &mut [u64], base: usize, n: u64, i: u64)
     ensures { λ r. ⌜ now (w .exit) ≡ gapOpened (now (w .entry)) base n i ⌝ }
@@ -102,19 +87,6 @@ pub fn open_gap(w: &mut [u64], base: usize, n: u64, i: u64)
         return;
     }
     raise(w, layout::entry_at(base, n), 32 * ((n - i) as usize));
-}
-
-// Records `i + 1` to `n - 1` moved down by one.
-pub fn close_gap(w: &mut [u64], base: usize, n: u64, i: u64)
-    ensures { λ r. ⌜ now (w .exit) ≡ gapClosed (now (w .entry)) base n i ⌝ }
-{
-    if MOST < n {
-        return;
-    }
-    if n <= i {
-        return;
-    }
-    lower(w, layout::entry_at(base, i), 32 * ((n - i - 1) as usize));
 }
 
 // Whether word `word` of the record at place `at` is the mark.

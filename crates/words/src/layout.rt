@@ -45,30 +45,31 @@ pub const RESTORED: usize = 18;
 pub const TIMER_INITIALIZATIONS: usize = 19;
 
 pub const DPC_INITIALIZATIONS: usize = 20;
-// The first and the last waiter; those of the ready threads of priority p stand at READY_FIRST + p and READY_LAST + p.
-pub const WAITERS_FIRST: usize = 21;
+// The first and the last waiter; those of the ready threads of priority p stand at READY_FIRST + p and READY_LAST + p. Places that a
+// chain holds are u32.
+pub const WAITERS_FIRST: u32 = 21;
 
-pub const WAITERS_LAST: usize = 22;
+pub const WAITERS_LAST: u32 = 22;
 
 // The first and the last DPC of the queue, and the address of the DPC whose work is active (0: none).
-pub const QUEUE_FIRST: usize = 23;
+pub const QUEUE_FIRST: u32 = 23;
 
 pub const QUEUE_LAST: usize = 24;
 
 pub const ACTIVE: usize = 25;
 
-pub const READY_FIRST: usize = 32;
+pub const READY_FIRST: u32 = 32;
 
-pub const READY_LAST: usize = 64;
+pub const READY_LAST: u32 = 64;
 
 // Words of a thread's record.
 pub const PRIORITY: usize = 0;
 
 pub const STATE: usize = 1;
 
-pub const NEXT_READY: usize = 2;
+pub const NEXT_READY: u32 = 2;
 
-pub const NEXT_WAITER: usize = 3;
+pub const NEXT_WAITER: u32 = 3;
 
 pub const RESULT: usize = 4;
 
@@ -85,6 +86,11 @@ pub const WAIT_SEQUENCE: usize = 9;
 pub const WAIT_COUNT: usize = 10;
 
 pub const WAIT_PLACES: usize = 32;
+
+// The link of thread n in its ready queue, or among the waiters, stands 160 n words behind this.
+pub const READY_LINK: u32 = 96 + NEXT_READY;
+
+pub const WAITERS_LINK: u32 = 96 + NEXT_WAITER;
 
 // Words of an object's record.
 pub const KEY: usize = 0;
@@ -168,6 +174,9 @@ pub const ORIGIN_PERIODIC: usize = 20;
 
 // What a DPC's number becomes when the table is closed up.
 pub const NEW_NUMBER: usize = 21;
+
+// The link of DPC n in the queue stands 32 n words behind the place that is so far before the first DPC.
+pub const QUEUE_LINK_BEFORE: usize = 32 - NEXT_QUEUED;
 
 // Where thread `id` stands; a number past 256 is no thread's, and gets unused words of the header.
 pub fn thread_at(id: u64) -> usize

@@ -9,15 +9,18 @@ use Rattle.dpcs.proofs.record.queue_chain.Tie as tie
 dpcs-base-requires : tie.Need-dpcs-base-requires
 dpcs-base-requires c κs = search needs
 
-sub-t3 : tie.Need-sub-t3
-sub-t3 c = omega (arith, base-least (now (c .before .before .args .w)), c .dpcs-base .ensures)
+cast-t3 : tie.Need-cast-t3
+cast-t3 c = search needs
 
-cast-t4 : tie.Need-cast-t4
-cast-t4 c = omega (arith, base-most (now (c .before .before .args .w)), c .dpcs-base .ensures)
+sub-t4 : tie.Need-sub-t4
+sub-t4 c = omega (arith, base-least (now (c .before .before .args .w)), c .dpcs-base .ensures)
+
+cast-t5 : tie.Need-cast-t5
+cast-t5 c = omega (arith, base-most (now (c .before .before .args .w)), c .dpcs-base .ensures)
 
 returns : tie.Need-returns
 unfolding queueChain
 returns c = cc
 
 pub queue-chain-spec : {M : Type 1} → statement M
-queue-chain-spec = tie.close (tie.spec dpcs-base-requires sub-t3 cast-t4 returns)
+queue-chain-spec = tie.close (tie.spec dpcs-base-requires cast-t3 sub-t4 cast-t5 returns)
