@@ -22,4 +22,3 @@ pub mod OrderLaws
 pub mod TimerLaws
 pub mod History
 pub mod FitsLaws
-pub mod WakesLaws
