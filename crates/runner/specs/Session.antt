@@ -52,20 +52,20 @@ begin =
 pub data Asked : Type 0 where
   nothing : Asked  -- the line cannot be read
   opens : ℕ → Asked  -- an `open` with this priority
-  changes : (List ℕ → Outcome) → Asked
-  reads : (List ℕ → Answer) → Asked
+  changes : (List ℕ → Outcome) → Asked  -- a call that may change the scheduler's words
+  reads : (List ℕ → Answer) → Asked  -- one that only reads them
   starts : ℕ → Asked  -- `start_dpc` of this address
   dispatches : Asked
   creates : Created → Asked  -- `clock new`
-  moves : (GuestClock → clock.Outcome) → Asked
-  tells : (GuestClock → Reading) → Asked
+  moves : (GuestClock → clock.Outcome) → Asked  -- a call that may change the clock
+  tells : (GuestClock → Reading) → Asked  -- one that only reads it
 
 -- the first `count` numbers of the list are the kinds and keys
 unfoldable pub waited : List ℕ → List ℕ → Bool → Bool → ℕ → ℕ → ℕ → Outcome
 waited w list all timed deadline irql count =
     cond (ltb (length list) count) (outcome (answer.Refused 28) w) (called w (call.Wait (take count list) all (optional timed deadline) irql))
 
--- `current` and `mutex_owner` print a bare number
+-- the call of each command; `current` and `mutex_owner` print a bare number
 unfoldable pub asked : List ℕ → Command → Asked
 asked list command.Unread = nothing
 asked list (command.Open p) = opens p
@@ -134,7 +134,7 @@ unfoldable pub newClock : Session → Created → Step
 newClock s (created-as.Ok c) = record { answer = answer.Done; session = record { opened = s .opened; timed = true; clock = c } }
 newClock s (created-as.Err why) = unchanged s (answer.Refused (errorNumber why))
 
--- "a clock call before a `clock new` has [succeeded] give 28"
+-- 28 for a clock call before a `clock new` has succeeded
 unfoldable pub moved : Session → clock.Outcome → Step
 moved s o =
     cond (s .timed) (record { answer = doneAnswer (o .answer); session = record { opened = s .opened; timed = s .timed; clock = o .clock } })
@@ -210,7 +210,7 @@ opensWith w p = called w (call.Open (length w) p 16 64 64)
 abbrev pub openedBy : Session → Answer → Step
 openedBy s a = record { answer = a; session = record { opened = accepts a; timed = s .timed; clock = s .clock } }
 
--- "a line before an `open` has succeeded" gives 28
+-- 28 for a line before an `open` has succeeded, but for an `open`
 unfoldable pub begun : List ℕ → List ℕ → Session → Asked → Performed
 begun w out s nothing = performedAs (unchanged s (answer.Refused 28)) w out
 begun w out s (opens p) = performedAs (openedBy s (opensWith w p .answer)) (opensWith w p .words) out
