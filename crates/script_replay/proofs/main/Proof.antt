@@ -3,6 +3,13 @@ use mathlib.Core.Path.{_≡_}
 use borrow.Author.Needs.{needs}
 use Rattle.script_replay.proofs.main.Statement.{statement}
 use Rattle.script_replay.proofs.main.Tie as tie
+use Rattle.script_replay.proofs.main.Reads as reads
+use Rattle.script_replay.proofs.main.Lts as lts
+use Rattle.io.proofs.count.Reads as count-reads
+use Rattle.libc.proofs.read.Reads as read-reads
+use Rattle.runner.proofs.lines.end.Reads as end-reads
+use Rattle.runner.proofs.lines.start.Reads as start-reads
+use Rattle.script_replay.proofs.take.Reads as take-reads
 
 abbrev Inv-loop : tie.InvT-loop
 Inv-loop w₀ waiting₀ list₀ line₀ text₀ at₀ turns₀ w waiting list line text at turns = (length w ≡ 6912) × (length waiting ≡ 16) × (length list ≡ 2048) × (length line ≡ 4097) × (length text ≡ 8192)
@@ -10,62 +17,101 @@ Inv-loop w₀ waiting₀ list₀ line₀ text₀ at₀ turns₀ w waiting list l
 abbrev μ-loop : tie.MeasureT-loop
 μ-loop w₀ waiting₀ list₀ line₀ text₀ at₀ turns₀ w waiting list line text at turns = turns
 
+-- src/main.rt:61:9
 start-requires : tie.Need-start-requires Inv-loop μ-loop
 start-requires c κs = search needs
 
+-- src/main.rt:63:5
 loop-holds : tie.Need-loop-holds Inv-loop μ-loop
 loop-holds c = (search needs, search needs, search needs, search needs, search needs)
 
+-- src/main.rt:65:44
 slice-aggregate-read : tie.Need-slice-aggregate-read Inv-loop μ-loop
 slice-aggregate-read c = search needs
 
+-- src/main.rt:65:13
 read-requires : tie.Need-read-requires Inv-loop μ-loop
 read-requires c κs = search needs
 
+-- src/main.rt:69:32
 slice-aggregate-count : tie.Need-slice-aggregate-count Inv-loop μ-loop
 slice-aggregate-count c = search needs
 
+-- src/main.rt:69:13
 count-requires : tie.Need-count-requires Inv-loop μ-loop
 count-requires c κs = search needs
 
+-- src/main.rt:71:13
 slice-aggregate-take : tie.Need-slice-aggregate-take Inv-loop μ-loop
 slice-aggregate-take c = search needs
 
+-- src/main.rt:72:13
 slice-aggregate-take-2 : tie.Need-slice-aggregate-take-2 Inv-loop μ-loop
 slice-aggregate-take-2 c = search needs
 
+-- src/main.rt:73:13
 slice-aggregate-take-3 : tie.Need-slice-aggregate-take-3 Inv-loop μ-loop
 slice-aggregate-take-3 c = search needs
 
+-- src/main.rt:74:13
 slice-aggregate-take-4 : tie.Need-slice-aggregate-take-4 Inv-loop μ-loop
 slice-aggregate-take-4 c = search needs
 
+-- src/main.rt:75:13
 slice-aggregate-take-5 : tie.Need-slice-aggregate-take-5 Inv-loop μ-loop
 slice-aggregate-take-5 c = search needs
 
+-- src/main.rt:76:13
 array-share-prefix-chunk : tie.Need-array-share-prefix-chunk Inv-loop μ-loop
 array-share-prefix-chunk c = search needs
 
+-- src/main.rt:76:13
 slice-aggregate-take-6 : tie.Need-slice-aggregate-take-6 Inv-loop μ-loop
 slice-aggregate-take-6 c = search needs
 
+-- src/main.rt:70:9
 take-requires : tie.Need-take-requires Inv-loop μ-loop
 take-requires c κs = search needs
 
+-- src/main.rt:79:9
 sub-turns : tie.Need-sub-turns Inv-loop μ-loop
 sub-turns c = search needs
 
+-- src/main.rt:63:5
 loop-less : tie.Need-loop-less Inv-loop μ-loop
 loop-less c = search needs
 
+-- src/main.rt:63:5
 loop-again : tie.Need-loop-again Inv-loop μ-loop
 loop-again c = (search needs, search needs, search needs, search needs, search needs)
 
+-- src/main.rt:81:16
+slice-aggregate-end : tie.Need-slice-aggregate-end Inv-loop μ-loop
+slice-aggregate-end c = search needs
+
+-- src/main.rt:81:24
+slice-aggregate-end-2 : tie.Need-slice-aggregate-end-2 Inv-loop μ-loop
+slice-aggregate-end-2 c = search needs
+
+-- src/main.rt:81:38
+slice-aggregate-end-3 : tie.Need-slice-aggregate-end-3 Inv-loop μ-loop
+slice-aggregate-end-3 c = search needs
+
+-- src/main.rt:81:49
+slice-aggregate-end-4 : tie.Need-slice-aggregate-end-4 Inv-loop μ-loop
+slice-aggregate-end-4 c = search needs
+
+-- src/main.rt:81:60
+slice-aggregate-end-5 : tie.Need-slice-aggregate-end-5 Inv-loop μ-loop
+slice-aggregate-end-5 c = search needs
+
+-- src/main.rt:81:5
+end-requires : tie.Need-end-requires Inv-loop μ-loop
+end-requires c κs = search needs
+
+-- src/main.rt:55:1
 returns : tie.Need-returns Inv-loop μ-loop
 returns c = search needs
-
-returns-2 : tie.Need-returns-2 Inv-loop μ-loop
-returns-2 c = search needs
 
 pub main-spec : {M : Type 1} → statement M
 main-spec =
@@ -90,5 +136,10 @@ main-spec =
     sub-turns
     loop-less
     loop-again
-    returns
-    returns-2)
+    slice-aggregate-end
+    slice-aggregate-end-2
+    slice-aggregate-end-3
+    slice-aggregate-end-4
+    slice-aggregate-end-5
+    end-requires
+    returns)
