@@ -1,3 +1,4 @@
 pub mod Script
 pub mod Lines
 pub mod Theorem
+pub mod Example

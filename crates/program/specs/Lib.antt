@@ -1,2 +1,3 @@
 pub mod Script
 pub mod Program
+pub mod Example
