@@ -6,8 +6,8 @@ use Rattle.answers.specs.declared.Answer as code
 use Rattle.answers.specs.declared.Answer.the-variants as answer
 use Rattle.dispatcher.specs.declared.read.PlaceAnswer as code-object
 use Rattle.dispatcher.specs.declared.read.PlaceAnswer.the-variants as object
-use Rattle.dpc.specs.declared.calls.WorkAnswer as code-work
-use Rattle.dpc.specs.declared.calls.WorkAnswer.the-variants as work
+use Rattle.dpc.specs.declared.work.WorkAnswer as code-work
+use Rattle.dpc.specs.declared.work.WorkAnswer.the-variants as work
 use Rattle.dpc.specs.declared.reads.DpcAnswer as code-dpc
 use Rattle.dpc.specs.declared.reads.DpcAnswer.the-variants as dpc
 use Rattle.dpc.specs.declared.reads.PolicyAnswer as code-policy

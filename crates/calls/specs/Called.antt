@@ -22,8 +22,8 @@ use Rattle.timers.specs.Arm as arm
 use Rattle.timers.specs.Release as timer-release
 use Rattle.timers.specs.Reads as timer-read
 use Rattle.timers.specs.declared.TimerAnswer.{TimerAnswer}
-use Rattle.dpc.specs.Calls as dpcs
-use Rattle.dpc.specs.Calls.{Started}
+use Rattle.dpc.specs.Work as dpcs
+use Rattle.dpc.specs.Work.{Started}
 use Rattle.dpc.specs.Reads as dpc-read
 use Rattle.dpc.specs.declared.reads.DpcAnswer.{DpcAnswer}
 use Rattle.dpc.specs.declared.reads.PolicyAnswer.{PolicyAnswer}

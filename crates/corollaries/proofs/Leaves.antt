@@ -34,9 +34,9 @@ use Rattle.timers.specs.Arm as arm
 use Rattle.timers.specs.Release as timer-release
 use Rattle.dpcs.specs.Record.{numberOf}
 use Rattle.dpc.specs.Queue.{queued}
-use Rattle.dpc.specs.Calls as dpcs
-use Rattle.dpc.specs.Calls.{Started}
-use Rattle.dpc.specs.declared.calls.WorkAnswer.the-variants as work
+use Rattle.dpc.specs.Work as dpcs
+use Rattle.dpc.specs.Work.{Started}
+use Rattle.dpc.specs.declared.work.WorkAnswer.the-variants as work
 use Rattle.form.specs.Form.{inForm}
 use Rattle.call_answers.specs.Told.{told, toldWith, toldWork}
 use Rattle.calls.specs.Guard.{guarded, guardedDispatch, guardedStart, guardedImage, imageRefused}

@@ -1,3 +1,3 @@
 pub mod Queue
-pub mod Calls
+pub mod Work
 pub mod Reads

@@ -6,8 +6,8 @@ use lib.ListN.{length}
 use borrow.Author.Tests.{lt-ltb, le-ltb}
 use Rattle.answers.specs.declared.Answer.{Answer}
 use Rattle.timers.specs.declared.TimerAnswer.{TimerAnswer}
-use Rattle.dpc.specs.Calls.{Started, startOutcome}
-use Rattle.dpc.specs.declared.calls.WorkAnswer.{WorkAnswer}
+use Rattle.dpc.specs.Work.{Started, startOutcome}
+use Rattle.dpc.specs.declared.work.WorkAnswer.{WorkAnswer}
 use Rattle.dpc.specs.declared.reads.DpcAnswer.{DpcAnswer}
 use Rattle.dpc.specs.declared.reads.PolicyAnswer.{PolicyAnswer}
 use Rattle.dpc.specs.declared.reads.CountersAnswer.{CountersAnswer}

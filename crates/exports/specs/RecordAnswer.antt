@@ -23,8 +23,8 @@ use Rattle.dpc.specs.declared.reads.PolicyAnswer.the-variants as policy
 use Rattle.dpc.specs.declared.reads.DpcCounters.{DpcCounters}
 use Rattle.dpc.specs.declared.reads.CountersAnswer.{CountersAnswer}
 use Rattle.dpc.specs.declared.reads.CountersAnswer.the-variants as counters
-use Rattle.dpc.specs.declared.calls.WorkAnswer.{WorkAnswer}
-use Rattle.dpc.specs.declared.calls.WorkAnswer.the-variants as work
+use Rattle.dpc.specs.declared.work.WorkAnswer.{WorkAnswer}
+use Rattle.dpc.specs.declared.work.WorkAnswer.the-variants as work
 use Rattle.dispatcher.specs.declared.read.ThreadView.{ThreadView}
 use Rattle.dispatcher.specs.declared.read.ThreadAnswer.{ThreadAnswer}
 use Rattle.dispatcher.specs.declared.read.ThreadAnswer.the-variants as thread

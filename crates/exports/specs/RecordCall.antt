@@ -5,7 +5,7 @@ use mathlib.Core.List.{List}
 use lib.ListN.{length}
 use lib.Dec.{ltb}
 use Rattle.timers.specs.declared.TimerAnswer.{TimerAnswer}
-use Rattle.dpc.specs.Calls.{Started}
+use Rattle.dpc.specs.Work.{Started}
 use Rattle.dpc.specs.declared.reads.DpcAnswer.{DpcAnswer}
 use Rattle.dpc.specs.declared.reads.PolicyAnswer.{PolicyAnswer}
 use Rattle.dpc.specs.declared.reads.CountersAnswer.{CountersAnswer}

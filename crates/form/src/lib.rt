@@ -6,28 +6,28 @@
 //   long enough                      header::is_long_enough
 //   limits pass their checks         header::limits_pass
 //   stored numbers pass theirs       header::numbers_pass, thread::numbers_pass, object::numbers_pass, timer::numbers_pass,
-//                                    dpc::numbers_pass
+//                                    dpc_records::numbers_pass
 //   and those that say nothing are 0 header::has_no_arguments, thread::exit_passes, object::mutex_passes, object::owner_lives,
-//                                    form_dpc::mapped_passes, dpc::origin_passes
-//   no key stands twice              form_dpc::key_rises, dpc::address_stands_once
+//                                    form_dpc::mapped_passes, dpc_records::origin_passes
+//   no key stands twice              form_dpc::key_rises, dpc_records::address_stands_once
 //   threads number 1 upward          nothing to test: a thread's number is the place of its record
 //   only the current one runs        thread::runs_if_current
 //   owners are live                  object::owner_lives
 //   waited objects exist             thread::waits_for_known
 //   no list names one twice          thread::waits_for_each_once
 //   sequences distinct, below next   chain::sequences_rise
-//   no work's sequence not given     dpc::sequence_is_given
+//   no work's sequence not given     dpc_records::sequence_is_given
 //   each chain holds its members     chain::waiters_stand_once, chain::ready_stand_once, queue::queue_stands_once
-//   a timer's DPC serves no other    timer::dpc_serves, dpc::is_named_rightly
+//   a timer's DPC serves no other    timer::dpc_serves, dpc_records::is_named_rightly
 //   demand 3's sum holds             counts::sum_holds
 //   starts less restorations         counts::starts_pass
 //   returns less restorations        counts::returns_pass
 //
-// `timer`, `dpc`, `queue` and `counts` are modules of `form_dpc`.
+// `timer`, `dpc_records`, `queue` and `counts` are modules of `form_dpc`.
 ghost use mathlib.Core.Path.{_≡_};
 ghost use Rattle.form.specs.Form.{inForm};
 use form_dpc::counts;
-use form_dpc::dpc;
+use form_dpc::dpc_records;
 use form_dpc::queue;
 
 pub mod chain;
@@ -54,7 +54,7 @@ pub fn in_form(w: &[u64]) -> bool
     if !object::objects_pass(w) {
         return false;
     }
-    let d = dpc::dpcs_pass(w);
+    let d = dpc_records::dpcs_pass(w);
     if !d.pass {
         return false;
     }

@@ -15,7 +15,7 @@ use Rattle.dpcs.proofs.RecordLaws.{count-most}
 use Rattle.form_dpc.specs.Dpc.{dpcPasses, dpcsIn, dpcsPass, hasPhase, phaseOne, phaseCountIn, phaseCount, dpcsSeen}
 use Rattle.form_dpc.specs.Queue.{chainEnd, queuedAt, queueIn, queueStandsAs, queueStandsOnce}
 use Rattle.form_dpc.specs.Counts.{activeCount, sumHoldsAs, sumHolds, startsPassAs, startsPass, returnsPassAs, returnsPass}
-use Rattle.form_dpc.specs.declared.dpc.Seen.{Seen}
+use Rattle.form_dpc.specs.declared.dpc_records.Seen.{Seen}
 
 less-one : (k : ℕ) → suc k - 1 ≡ k
 less-one k = omega arith

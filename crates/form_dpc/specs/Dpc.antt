@@ -12,7 +12,7 @@ use Rattle.tables.specs.Table.{keyAt}
 use Rattle.objects.specs.Objects.{objectsBase, dpcsBase, objectFound, placeOf}
 use Rattle.images.specs.Place.{architectureOf, dpcSize}
 use Rattle.dpcs.specs.Record.{dpcCount}
-use Rattle.form_dpc.specs.declared.dpc.Seen.{Seen}
+use Rattle.form_dpc.specs.declared.dpc_records.Seen.{Seen}
 use Rattle.form_dpc.specs.Place.{keyRises, located}
 use Rattle.form_dpc.specs.Timer.{hasDpc}
 

@@ -1,10 +1,10 @@
 // The counts of DPC work in form: each is the sum that document 01 says. How many DPCs are queued, active (running or returning) and
-// returning is counted once, by `dpc::dpcs_pass`.
+// returning is counted once, by `dpc_records::dpcs_pass`.
 ghost use mathlib.Core.Path.{_≡_};
 ghost use Prim.Native.Nat.{_+_};
 ghost use lib.Dec.{eqb};
 ghost use Rattle.form_dpc.specs.Counts.{sumHoldsAs, activeNamedAs, startsPassAs, returnsPassAs};
-use super::dpc;
+use super::dpc_records;
 use words::layout;
 
 // Whether the two parts make the total; their sum may be past 2^64 - 1.
@@ -46,7 +46,7 @@ fn active_passes(w: &[u64], active: u64) -> bool
     if at == 0 {
         return false;
     }
-    dpc::RUNNING <= words::get_in(w, at, layout::PHASE)
+    dpc_records::RUNNING <= words::get_in(w, at, layout::PHASE)
 }
 
 // Document 01: starts less restorations is the active work, at most one.

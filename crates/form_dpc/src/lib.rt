@@ -4,7 +4,7 @@ ghost use Prim.Native.Nat.{_≤_, _-_};
 ghost use Rattle.form_dpc.specs.Place.{keyRises, pastIn, mappedPasses, located};
 
 pub mod counts;
-pub mod dpc;
+pub mod dpc_records;
 pub mod queue;
 pub mod timer;
 

@@ -2,7 +2,7 @@
 // queued DPCs are these DPCs.
 ghost use mathlib.Core.Path.{_≡_};
 ghost use Rattle.form_dpc.specs.Queue.{chainEnd, queuedAt, queueSize, queueStandsAs};
-use super::dpc;
+use super::dpc_records;
 use chains::Chain;
 use dpcs::record;
 
@@ -23,7 +23,7 @@ fn is_queued(w: &[u64], n: u64) -> bool
     if record::count(w) < n {
         return false;
     }
-    dpc::has_phase(w, record::place(w, n), dpc::QUEUED)
+    dpc_records::has_phase(w, record::place(w, n), dpc_records::QUEUED)
 }
 
 // 0 where the queue is out of form, else one more than how many stand in it. One step more than there can be DPCs sees its end.

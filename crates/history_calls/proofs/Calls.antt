@@ -8,7 +8,7 @@ use lib.ListN.{length, replicate, length-replicate}
 use Rattle.answers.specs.Outcome as code
 use Rattle.dispatcher.specs.Dispatch.{Dispatched}
 use Rattle.dispatcher.specs.Dispatched.{dispatched}
-use Rattle.dpc.specs.Calls.{Started}
+use Rattle.dpc.specs.Work.{Started}
 use Rattle.form.specs.Form.{inForm}
 use Rattle.call_answers.specs.Told.{toldWith, told, toldWork}
 use Rattle.calls.specs.Guard.{guarded, guardedDispatch, guardedStart}

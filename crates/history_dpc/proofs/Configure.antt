@@ -7,7 +7,7 @@ use native.Mathlib.Omega.{arith}
 use borrow.Author.Tests.{ne-eqb}
 use lib.Dec.{eqb}
 use lib.ListN.{length}
-use Rattle.dpc.specs.Calls as words
+use Rattle.dpc.specs.Work as words
 use Rattle.answers.specs.Outcome.{outcome}
 use Rattle.answers.specs.declared.Answer.the-variants as answer
 use Rattle.model.specs.Lists.{isEmpty}

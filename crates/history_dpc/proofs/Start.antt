@@ -17,8 +17,8 @@ use Rattle.images.specs.declared.DpcPhase.the-variants.{Idle, Queued, Running, 
 use Rattle.dpcs.specs.Record as record-words
 use Rattle.dpcs.specs.Record.{placeAt, numberOf, queueChain}
 use Rattle.dpc.specs.Queue.{raised}
-use Rattle.dpc.specs.Calls as words
-use Rattle.dpc.specs.declared.calls.WorkAnswer.the-variants as start
+use Rattle.dpc.specs.Work as words
+use Rattle.dpc.specs.declared.work.WorkAnswer.the-variants as start
 use Rattle.call_answers.specs.Told.{toldWork}
 use Rattle.model.specs.Lists.{Mem, rest, present}
 use Rattle.model.specs.State.{State}

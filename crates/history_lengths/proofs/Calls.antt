@@ -5,7 +5,7 @@ use mathlib.Core.Option.{none, some}
 use mathlib.Core.Path.{_≡_, refl, _∙_}
 use lib.ListN.{length}
 use Rattle.answers.specs.Outcome.{Outcome}
-use Rattle.dpc.specs.Calls.{Started}
+use Rattle.dpc.specs.Work.{Started}
 use Rattle.model.specs.Call.{Call}
 use Rattle.model.specs.Call as call
 use Rattle.calls.specs.Guard.{guarded, guardedDispatch, guardedStart}

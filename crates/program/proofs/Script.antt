@@ -18,8 +18,8 @@ use Rattle.clock.specs.declared.Created.the-variants as created-as
 use Rattle.clock.specs.declared.Reading.{Reading}
 use Rattle.clock.specs.declared.Outcome as clock
 use Rattle.clock.specs.Clock.{created, instruction, advanceMicroseconds, advance100ns, advanceMilliseconds, flushCycles, observe, qpc, tick64, tsc}
-use Rattle.dpc.specs.declared.calls.WorkAnswer.{WorkAnswer}
-use Rattle.dpc.specs.declared.calls.WorkAnswer.the-variants as work
+use Rattle.dpc.specs.declared.work.WorkAnswer.{WorkAnswer}
+use Rattle.dpc.specs.declared.work.WorkAnswer.the-variants as work
 use Rattle.words.specs.Layout as at
 use Rattle.words.specs.Word.{topBit}
 use Rattle.threads.specs.Thread.{threadCount}

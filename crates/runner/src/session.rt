@@ -11,7 +11,7 @@ use clock::GuestClock;
 use clock::Outcome;
 use clock::Reading;
 use clock::core;
-use dpc::calls::WorkAnswer;
+use dpc::work::WorkAnswer;
 use scheduler::changes;
 use scheduler::dpc_calls;
 use scheduler::reads;

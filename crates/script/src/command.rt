@@ -6,7 +6,7 @@ ghost use Rattle.script.specs.Words.{wordsAt};
 ghost use Rattle.script.specs.Wait.{taken};
 ghost use Rattle.script.specs.Line.{textLength, textLine, readLine};
 use super::lex;
-use super::scheduler;
+use super::scheduler_lines;
 use super::wait;
 use arch::Architecture;
 use images::TimerBacking;
@@ -162,7 +162,7 @@ fn read_text(line: &[u8], list: &mut [u64]) -> Command
     if lex::is_word(line, 0, b"wait") {
         return wait::read_wait(line, rest, list);
     }
-    scheduler::read_short(line, 0)
+    scheduler_lines::read_short(line, 0)
 }
 
 // The command of a line, which comes without its newline. The kinds and keys of a wait go into the list, as far as they are read;

@@ -6,6 +6,6 @@ mod dpc_lines;
 pub mod lex;
 mod location;
 pub mod print;
-mod scheduler;
+mod scheduler_lines;
 mod timer_lines;
 mod wait;

@@ -1,0 +1,32 @@
+use mathlib.Core.Path.{_∙_, sym}
+use Rattle.script.specs.Arguments.{withTwo}
+use native.Mathlib.Omega.{arith}
+use Rattle.script.proofs.NumberLaws.{last-within}
+use borrow.Author.Needs.{needs}
+use Rattle.script.proofs.scheduler_lines.read_delay_until.Statement.{statement}
+use Rattle.script.proofs.scheduler_lines.read_delay_until.Tie as tie
+
+two-numbers-requires : tie.Need-two-numbers-requires
+two-numbers-requires c κs = search needs
+
+enum-told : tie.Need-enum-told
+enum-told c = search needs
+
+enum-known-deadline : tie.Need-enum-known-deadline
+enum-known-deadline c = search needs
+
+cast-t7 : tie.Need-cast-t7
+cast-t7 c = record { fits = omega (arith, last-within _ 255 _ _ _ (sym (c .before .deadline .given .1) ∙ c .before .before .before .two-numbers .ensures)) }
+
+returns : tie.Need-returns
+unfolding withTwo
+returns c = simp (sym (c .before .before .two-numbers .ensures) ∙ c .enum-told .given .1)
+
+returns-2 : tie.Need-returns-2
+unfolding withTwo
+returns-2 c = simp (sym (c .before .before .before .two-numbers .ensures) ∙ c .before .deadline .given .1)
+
+pub read-delay-until-spec : {M : Type 1} → statement M
+read-delay-until-spec =
+    tie.close
+    (tie.spec two-numbers-requires enum-told enum-known-deadline cast-t7 returns returns-2)
