@@ -8,12 +8,12 @@ use Rattle.dispatcher.specs.declared.read.PlaceAnswer as code-object
 use Rattle.dispatcher.specs.declared.read.PlaceAnswer.the-variants as object
 use Rattle.dpc.specs.declared.work.WorkAnswer as code-work
 use Rattle.dpc.specs.declared.work.WorkAnswer.the-variants as work
-use Rattle.dpc.specs.declared.reads.DpcAnswer as code-dpc
-use Rattle.dpc.specs.declared.reads.DpcAnswer.the-variants as dpc
-use Rattle.dpc.specs.declared.reads.PolicyAnswer as code-policy
-use Rattle.dpc.specs.declared.reads.PolicyAnswer.the-variants as policy
-use Rattle.dpc.specs.declared.reads.CountersAnswer as code-counters
-use Rattle.dpc.specs.declared.reads.CountersAnswer.the-variants as counters
+use Rattle.dpc_reads.specs.declared.DpcAnswer as code-dpc
+use Rattle.dpc_reads.specs.declared.DpcAnswer.the-variants as dpc
+use Rattle.dpc_reads.specs.declared.PolicyAnswer as code-policy
+use Rattle.dpc_reads.specs.declared.PolicyAnswer.the-variants as policy
+use Rattle.dpc_reads.specs.declared.CountersAnswer as code-counters
+use Rattle.dpc_reads.specs.declared.CountersAnswer.the-variants as counters
 use Rattle.timers.specs.declared.TimerAnswer as code-timer
 use Rattle.timers.specs.declared.TimerAnswer.the-variants as timer
 use Rattle.model.specs.State.{unselected, cpu0Dispatch}

@@ -6,7 +6,7 @@ use mathlib.Core.Path.{_≡_, refl}
 use lib.Dec.{eqb}
 use lib.ListN.{getD, set}
 use Rattle.objects.specs.Objects.{placeOf}
-use Rattle.sync.specs.Events as events
+use Rattle.events.specs.Events as events
 use Rattle.form.specs.Form.{inForm}
 use Rattle.model.specs.Call as call
 use Rattle.calls.specs.Guard.{guarded}

@@ -6,28 +6,28 @@ use mathlib.Core.Bool.{Bool, true, false, cond}
 use mathlib.Core.Option.{Option, none, some}
 use Rattle.answers.specs.declared.Answer.{Answer}
 use Rattle.answers.specs.Outcome.{Outcome}
-use Rattle.kernel.specs.Open.{opened}
+use Rattle.opening.specs.Open.{opened}
 use Rattle.kernel.specs.Thread as thread
 use Rattle.sync.specs.Mutexes as mutexes
-use Rattle.sync.specs.Events as events
+use Rattle.events.specs.Events as events
 use Rattle.sync.specs.Release as release
-use Rattle.dispatcher.specs.Wait as wait
-use Rattle.dispatcher.specs.Advance as time
+use Rattle.waiting.specs.Wait as wait
+use Rattle.advancing.specs.Advance as time
 use Rattle.dispatcher.specs.Dispatch.{Dispatched}
 use Rattle.dispatcher.specs.Read as read
 use Rattle.dispatcher.specs.declared.read.ThreadAnswer.{ThreadAnswer}
 use Rattle.dispatcher.specs.declared.read.PlaceAnswer.{PlaceAnswer}
 use Rattle.timers.specs.Initialize as initialize
-use Rattle.timers.specs.Arm as arm
+use Rattle.arming.specs.Arm as arm
 use Rattle.timers.specs.Release as timer-release
 use Rattle.timers.specs.Reads as timer-read
 use Rattle.timers.specs.declared.TimerAnswer.{TimerAnswer}
 use Rattle.dpc.specs.Work as dpcs
 use Rattle.dpc.specs.Work.{Started}
-use Rattle.dpc.specs.Reads as dpc-read
-use Rattle.dpc.specs.declared.reads.DpcAnswer.{DpcAnswer}
-use Rattle.dpc.specs.declared.reads.PolicyAnswer.{PolicyAnswer}
-use Rattle.dpc.specs.declared.reads.CountersAnswer.{CountersAnswer}
+use Rattle.dpc_reads.specs.Reads as dpc-read
+use Rattle.dpc_reads.specs.declared.DpcAnswer.{DpcAnswer}
+use Rattle.dpc_reads.specs.declared.PolicyAnswer.{PolicyAnswer}
+use Rattle.dpc_reads.specs.declared.CountersAnswer.{CountersAnswer}
 use Rattle.model.specs.Call.{Call, Read}
 use Rattle.model.specs.Call as call
 use Rattle.calls.specs.Guard.{guarded, guardedDispatch, guardedStart, readable, timerReadable, dpcReadable, policyReadable, countersReadable, threadReadable, placeReadable, guardedImage}

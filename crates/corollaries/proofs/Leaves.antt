@@ -14,26 +14,26 @@ use Rattle.words.specs.Layout as at
 use Rattle.words.specs.Word.{topBit}
 use Rattle.objects.specs.Objects.{placeOf}
 use Rattle.images.specs.declared.DpcWork.{DpcWork}
-use Rattle.kernel.specs.Open.{openRefusal, opened}
+use Rattle.opening.specs.Open.{openRefusal, opened}
 use Rattle.kernel.specs.Thread as thread
 use Rattle.sync.specs.Mutexes as mutexes
-use Rattle.sync.specs.Events as events
+use Rattle.events.specs.Events as events
 use Rattle.sync.specs.Release as release
 use Rattle.threads.specs.declared.Wait.{Wait}
 use Rattle.waits.specs.Lists.{metIn}
-use Rattle.dispatcher.specs.Wait as wait
-use Rattle.dispatcher.specs.Advance as time
+use Rattle.waiting.specs.Wait as wait
+use Rattle.advancing.specs.Advance as time
 use Rattle.dispatcher.specs.TimerDue.{nextTime}
 use Rattle.dispatcher.specs.Dispatch as dispatch
 use Rattle.dispatcher.specs.Dispatch.{Dispatched}
 use Rattle.dispatcher.specs.Dispatched.{dispatched}
-use Rattle.expiry.specs.Advance.{expiryRefusal}
+use Rattle.expiry_advance.specs.Advance.{expiryRefusal}
 use Rattle.timers.specs.Initialize as initialize
-use Rattle.timers.specs.Signed.{negative, whole, magnitude}
-use Rattle.timers.specs.Arm as arm
+use Rattle.arming.specs.Signed.{negative, whole, magnitude}
+use Rattle.arming.specs.Arm as arm
 use Rattle.timers.specs.Release as timer-release
 use Rattle.dpcs.specs.Record.{numberOf}
-use Rattle.dpc.specs.Queue.{queued}
+use Rattle.dpc_queue.specs.Queue.{queued}
 use Rattle.dpc.specs.Work as dpcs
 use Rattle.dpc.specs.Work.{Started}
 use Rattle.dpc.specs.declared.work.WorkAnswer.the-variants as work

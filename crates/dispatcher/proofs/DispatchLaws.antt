@@ -1,12 +1,11 @@
 -- The laws of the loops, as the code counts, and the bounds that its calls need.
-use Prim.Native.Nat.{ℕ, zero, suc, _+_, _-_, _/_, _≤_, _<_}
+use Prim.Native.Nat.{ℕ, zero, suc, _+_, _-_, _≤_, _<_}
 use native.Mathlib.Omega.{arith}
 use mathlib.Core.List.{List}
 use mathlib.Core.Bool.{Bool, cond, true, false}
 use mathlib.Core.Path.{_≡_, refl}
-use lib.ListN.{length, set}
-use lib.Dec.{leb}
-use borrow.Author.Tests.{eq-eqb, ne-eqb, leb-true}
+use lib.ListN.{set}
+use borrow.Author.Tests.{eq-eqb, ne-eqb}
 use Rattle.words.specs.Layout as at
 use Rattle.chains.specs.declared.Chain.{Chain}
 use Rattle.chains.specs.Chain.{firstOf, nextOf}
@@ -16,32 +15,12 @@ use Rattle.threads.specs.Thread.{threadOf, putThread}
 use Rattle.answers.specs.declared.Answer.the-variants as answer
 use Rattle.answers.specs.Outcome.{outcome}
 use Rattle.dispatcher.specs.declared.dispatch.Due.{Due}
-use Rattle.dispatcher.specs.Wait.{pairCount}
-use Rattle.dispatcher.specs.Advance.{expired, expiredIn}
 use Rattle.words.specs.Layout.{entryAt}
 use Rattle.dispatcher.specs.TimerDue.{dueWith, soonestTimerIn}
 use Rattle.dispatcher.specs.Dispatch.{dueAfter, soonestIn, ran, isWaiting, noted, notedTo, listedIn, listedToIn}
 
 less-one : (k : ℕ) → suc k - 1 ≡ k
 less-one k = omega arith
-
-pub pairs-most : (list : List ℕ) → pairCount list ≤ 64
-unfolding pairCount
-pairs-most list = go (leb (length list / 2) 64) refl
-  where
-    go : (b : Bool) → leb (length list / 2) 64 ≡ b → cond b (length list / 2) 64 ≤ 64
-    go true e = leb-true _ _ e
-    go false e = omega arith
-
-pub expired-none : (m : ℕ) (w : List ℕ) (id time : ℕ) → m ≤ 0 → expiredIn m w id time ≡ w
-unfolding expiredIn
-expired-none zero w id time h = refl
-expired-none (suc m) w id time h = absurd (omega arith)
-
-pub expired-more : (m : ℕ) (w : List ℕ) (id time : ℕ) → 0 < m → expiredIn m w id time ≡ expiredIn (m - 1) (expired w id time) (id + 1) time
-unfolding expiredIn
-expired-more zero w id time h = absurd (omega arith)
-expired-more (suc m) w id time h = simp (less-one m)
 
 pub soonest-none : (k : ℕ) (w : List ℕ) (d : Due) (id : ℕ) → k ≤ 0 → soonestIn k w d id ≡ d
 unfolding soonestIn

@@ -3,7 +3,7 @@ use Prim.Native.Nat.{ℕ, _≤_, zero-le}
 use mathlib.Core.List.{List}
 use mathlib.Core.Bool.{Bool, true, false, cond}
 use Rattle.threads.specs.Thread.{countOf}
-use Rattle.waits.proofs.WakeLaws.{count-most}
+use Rattle.wakes.proofs.WakeLaws.{count-most}
 use Rattle.dispatcher.specs.Dispatch.{isWaiting}
 use Rattle.dispatcher.specs.Read.{waitedCount}
 

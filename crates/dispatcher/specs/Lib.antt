@@ -1,5 +1,3 @@
-pub mod Wait
-pub mod Advance
 pub mod Dispatch
 pub mod TimerDue
 pub mod Dispatched

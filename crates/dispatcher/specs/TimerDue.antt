@@ -9,7 +9,7 @@ use Rattle.words.specs.Layout.{entryAt}
 use Rattle.objects.specs.Objects.{objectsBase, objectCount}
 use Rattle.chains.specs.Chain.{firstOf}
 use Rattle.chains.specs.Ready.{waitersChain}
-use Rattle.waits.specs.Wake.{waitsOn}
+use Rattle.wakes.specs.Wake.{waitsOn}
 use Rattle.dispatcher.specs.declared.dispatch.Due.{Due}
 use Rattle.dispatcher.specs.Dispatch.{sooner, soonest}
 

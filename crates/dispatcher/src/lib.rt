@@ -1,7 +1,4 @@
-// Waiting, the passing of time, dispatch, and reading threads. The calls are total: words out of form get an answer too, if
-// no useful one.
-pub mod advance;
+// Dispatch, and reading threads. The calls are total: words out of form get an answer too, if no useful one.
 pub mod dispatch;
 pub mod read;
 pub mod timer_due;
-pub mod wait;

@@ -5,7 +5,6 @@ use super::dispatch::Due;
 use super::dispatch::sooner;
 use super::dispatch::soonest;
 use chains::ready;
-use waits::wake;
 use words::layout;
 
 // Whether the timer at place `at` is unsignaled and in a waiter's list.
@@ -15,7 +14,7 @@ fn is_awaited(w: &[u64], at: usize) -> bool
     if words::get_in(w, at, layout::SIGNALED) != 0 {
         return false;
     }
-    wake::waits_on(w, objects::TIMER, words::get_in(w, at, layout::KEY))
+    wakes::waits_on(w, objects::TIMER, words::get_in(w, at, layout::KEY))
 }
 
 // Whether the record at place `at` is of an inserted timer that has a DPC, or is awaited.

@@ -11,10 +11,10 @@ use Rattle.dpcs.specs.Named.{isNamed}
 use Rattle.answers.specs.declared.Answer.{Answer}
 use Rattle.answers.specs.declared.Answer.the-variants as answer
 use Rattle.answers.specs.Outcome.{Outcome, outcome, unless}
-use Rattle.dpc.specs.declared.queue.Origin.{Origin}
+use Rattle.dpc_queue.specs.declared.Origin.{Origin}
 use Rattle.dpc.specs.declared.work.WorkAnswer.{WorkAnswer}
 use Rattle.dpc.specs.declared.work.WorkAnswer.the-variants as start
-use Rattle.dpc.specs.Queue.{raised, queued, accepted, withdrawn}
+use Rattle.dpc_queue.specs.Queue.{raised, queued, accepted, withdrawn}
 
 -- ---- configure_dpc_dispatch: 20 a policy is set, or something has been made or done; 20 an argument 0, or both equal
 

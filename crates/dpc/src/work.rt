@@ -2,7 +2,6 @@
 ghost use mathlib.Core.Path.{_≡_};
 ghost use Rattle.answers.specs.Outcome.{outcome};
 ghost use Rattle.dpc.specs.Work.{untouched, configureRefusal, policySet, configured, duplicateRefusal, workRefusal, insertRefusal, callerOrigin, queueInserted, queueRemoved, startRefusal, headStarted, startOutcome, workStarted, phaseRefusal, returning, workReturned, idle, workRestored};
-use super::queue;
 use answers::Answer;
 use dpcs::named;
 use dpcs::record;
@@ -98,10 +97,10 @@ fn work_refusal(w: &[u64], n: u64) -> u64
 {
     let at = record::place(w, n);
     let phase = words::get_in(w, at, layout::PHASE);
-    if phase == queue::QUEUED {
+    if phase == dpc_queue::QUEUED {
         return duplicate_refusal(w, at);
     }
-    if phase != queue::IDLE {
+    if phase != dpc_queue::IDLE {
         return 19;
     }
     if 65_536 <= words::get(w, layout::ACCEPTED) {
@@ -126,10 +125,10 @@ fn insert_refusal(w: &[u64], address: u64) -> u64
     work_refusal(w, n)
 }
 
-fn caller_origin() -> queue::Origin
+fn caller_origin() -> dpc_queue::Origin
     ensures { λ r. ⌜ r ≡ callerOrigin ⌝ }
 {
-    queue::Origin {
+    dpc_queue::Origin {
         timer: 0,
         address: 0,
         arm: 0,
@@ -149,11 +148,11 @@ pub fn insert_queue_dpc(w: &mut [u64], address: u64, first: u64, second: u64) ->
         return Answer::Refused(refusal);
     }
     let n = record::number_of(w, address);
-    if queue::is_queued(w, n) {
-        queue::raise(w, layout::DUPLICATES);
+    if dpc_queue::is_queued(w, n) {
+        dpc_queue::raise(w, layout::DUPLICATES);
         return Answer::Flag(false);
     }
-    queue::accept(w, n, first, second, caller_origin());
+    dpc_queue::accept(w, n, first, second, caller_origin());
     Answer::Flag(true)
 }
 
@@ -165,10 +164,10 @@ pub fn remove_queue_dpc(w: &mut [u64], address: u64) -> Answer
     if n == 0 {
         return Answer::Refused(2);
     }
-    if !queue::is_queued(w, n) {
+    if !dpc_queue::is_queued(w, n) {
         return Answer::Flag(false);
     }
-    queue::withdraw(w, n);
+    dpc_queue::withdraw(w, n);
     Answer::Flag(true)
 }
 
@@ -195,8 +194,8 @@ fn start_head(w: &mut [u64], n: u64, address: u64)
     let at = record::place(w, n);
     let queue = record::queue_chain(w);
     chains::unlink(w, queue, 0, n);
-    words::put_in(w, at, layout::PHASE, queue::RUNNING);
-    queue::raise(w, layout::STARTED);
+    words::put_in(w, at, layout::PHASE, dpc_queue::RUNNING);
+    dpc_queue::raise(w, layout::STARTED);
     words::put(w, layout::ACTIVE, address);
 }
 
@@ -235,15 +234,15 @@ fn phase_refusal(w: &[u64], address: u64, phase: u64, sequence: u64) -> u64
 fn return_work(w: &mut [u64], n: u64)
     ensures { λ r. ⌜ now (w .exit) ≡ returning (now (w .entry)) n ⌝ }
 {
-    words::put_in(w, record::place(w, n), layout::PHASE, queue::RETURNING);
-    queue::raise(w, layout::RETURNED);
+    words::put_in(w, record::place(w, n), layout::PHASE, dpc_queue::RETURNING);
+    dpc_queue::raise(w, layout::RETURNED);
 }
 
 // The routine of the running work has returned.
 pub fn returned_dpc(w: &mut [u64], address: u64, sequence: u64) -> Answer
     ensures { λ r. ⌜ outcome r (now (w .exit)) ≡ workReturned (now (w .entry)) address sequence ⌝ }
 {
-    let refusal = phase_refusal(w, address, queue::RUNNING, sequence);
+    let refusal = phase_refusal(w, address, dpc_queue::RUNNING, sequence);
     if refusal != 0 {
         return Answer::Refused(refusal);
     }
@@ -254,8 +253,8 @@ pub fn returned_dpc(w: &mut [u64], address: u64, sequence: u64) -> Answer
 fn restore(w: &mut [u64], n: u64)
     ensures { λ r. ⌜ now (w .exit) ≡ idle (now (w .entry)) n ⌝ }
 {
-    words::put_in(w, record::place(w, n), layout::PHASE, queue::IDLE);
-    queue::raise(w, layout::RESTORED);
+    words::put_in(w, record::place(w, n), layout::PHASE, dpc_queue::IDLE);
+    dpc_queue::raise(w, layout::RESTORED);
     words::put(w, layout::ACTIVE, 0);
 }
 
@@ -263,7 +262,7 @@ fn restore(w: &mut [u64], n: u64)
 pub fn restored_dpc(w: &mut [u64], address: u64, sequence: u64) -> Answer
     ensures { λ r. ⌜ outcome r (now (w .exit)) ≡ workRestored (now (w .entry)) address sequence ⌝ }
 {
-    let refusal = phase_refusal(w, address, queue::RETURNING, sequence);
+    let refusal = phase_refusal(w, address, dpc_queue::RETURNING, sequence);
     if refusal != 0 {
         return Answer::Refused(refusal);
     }

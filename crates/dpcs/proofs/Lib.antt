@@ -1,3 +1,2 @@
 pub mod RecordLaws
 pub mod NamedLaws
-pub mod TableLaws

@@ -1,4 +1,3 @@
-// The table of DPCs: what a record says, which DPC an inserted timer has, and records made and taken out.
+// The DPCs: what a record says, and which DPC an inserted timer has.
 pub mod named;
 pub mod record;
-pub mod table;

@@ -7,8 +7,8 @@ use lib.Dec.{eqb}
 use Rattle.words.specs.Layout as at
 use Rattle.words.specs.Layout.{entryAt}
 use Rattle.dpcs.specs.Record.{numberOf, placeAt}
-use Rattle.dpc.specs.Queue.{raised, accepted}
-use Rattle.dpc.specs.declared.queue.Origin.{Origin}
+use Rattle.dpc_queue.specs.Queue.{raised, accepted}
+use Rattle.dpc_queue.specs.declared.Origin.{Origin}
 use Rattle.expiry.specs.Next.{laterDue}
 
 unfoldable pub flag : ℕ → ℕ

@@ -1,6 +1,4 @@
-pub mod Order
 pub mod Next
 pub mod Due
 pub mod Check
 pub mod Expire
-pub mod Advance

@@ -2,7 +2,6 @@
 ghost use mathlib.Core.Path.{_≡_};
 ghost use Prim.Native.Nat.{_≤_};
 ghost use Rattle.expiry.specs.Check.{isOwn, idleRefusal, queuedRefusal, workRefusal, timerPasses, plainRefusal, queuingRefusal, oneRefusal, countedAfter, countsAt, listRefusal};
-use dpc::queue;
 use dpcs::record;
 use words::layout;
 
@@ -57,10 +56,10 @@ fn work_refusal(w: &[u64], p: usize, at: usize, c: Counts) -> u64
     ensures { λ r. ⌜ r ≡ workRefusal (now (w .entry)) p at c ⌝ }
 {
     let phase = words::get_in(w, p, layout::PHASE);
-    if phase == queue::IDLE {
+    if phase == dpc_queue::IDLE {
         return idle_refusal(c);
     }
-    if phase == queue::QUEUED {
+    if phase == dpc_queue::QUEUED {
         return queued_refusal(w, p, at, c);
     }
     19
@@ -122,7 +121,7 @@ fn count_after(w: &[u64], at: usize, c: Counts) -> Counts
         return c;
     }
     let p = record::place(w, record::number_of(w, dpc));
-    if words::get_in(w, p, layout::PHASE) == queue::IDLE {
+    if words::get_in(w, p, layout::PHASE) == dpc_queue::IDLE {
         return Counts {
             accepted: std::num::wrapping_add_u64(c.accepted, 1),
             duplicates: c.duplicates,

@@ -1,8 +1,7 @@
 // What the expiry of due timers does: a timer is signaled, its DPC's work is queued, and it is due again or no longer inserted.
 ghost use mathlib.Core.Path.{_≡_};
 ghost use Rattle.expiry.specs.Expire.{flag, originOf, queuedFor, workQueued, unnamed, settled, expiredOne, expiredList};
-use dpc::queue;
-use dpc::queue::Origin;
+use dpc_queue::Origin;
 use dpcs::record;
 use words::layout;
 
@@ -31,14 +30,14 @@ fn origin_of(w: &[u64], at: usize, time: u64) -> Origin
 fn queue_for(w: &mut [u64], n: u64, at: usize, time: u64)
     ensures { λ r. ⌜ now (w .exit) ≡ queuedFor (now (w .entry)) n at time ⌝ }
 {
-    if words::get_in(w, record::place(w, n), layout::PHASE) == queue::IDLE {
+    if words::get_in(w, record::place(w, n), layout::PHASE) == dpc_queue::IDLE {
         let first = words::get(w, layout::TIMER_ARGUMENT);
         let second = words::get(w, layout::TIMER_ARGUMENT_2);
         let o = origin_of(w, at, time);
-        queue::accept(w, n, first, second, o);
+        dpc_queue::accept(w, n, first, second, o);
         return;
     }
-    queue::raise(w, layout::DUPLICATES);
+    dpc_queue::raise(w, layout::DUPLICATES);
 }
 
 fn queue_work(w: &mut [u64], at: usize, time: u64)

@@ -1,4 +1,2 @@
-pub mod OffsetLaws
-pub mod WordLaws
 pub mod AnswerLaws
 pub mod RecordLaws

@@ -8,9 +8,9 @@ use Rattle.answers.specs.declared.Answer.{Answer}
 use Rattle.timers.specs.declared.TimerAnswer.{TimerAnswer}
 use Rattle.dpc.specs.Work.{Started, startOutcome}
 use Rattle.dpc.specs.declared.work.WorkAnswer.{WorkAnswer}
-use Rattle.dpc.specs.declared.reads.DpcAnswer.{DpcAnswer}
-use Rattle.dpc.specs.declared.reads.PolicyAnswer.{PolicyAnswer}
-use Rattle.dpc.specs.declared.reads.CountersAnswer.{CountersAnswer}
+use Rattle.dpc_reads.specs.declared.DpcAnswer.{DpcAnswer}
+use Rattle.dpc_reads.specs.declared.PolicyAnswer.{PolicyAnswer}
+use Rattle.dpc_reads.specs.declared.CountersAnswer.{CountersAnswer}
 use Rattle.dispatcher.specs.declared.read.ThreadAnswer.{ThreadAnswer}
 use Rattle.dispatcher.specs.declared.read.PlaceAnswer.{PlaceAnswer}
 use Rattle.calls.specs.Images.{Imaged, imaged}

@@ -1,4 +1,3 @@
-pub mod ClockWords
 pub mod SchedulerAnswer
 pub mod RecordAnswer
 pub mod RecordCall

@@ -16,13 +16,13 @@ use Rattle.images.specs.declared.DpcOrigin.{DpcOrigin}
 use Rattle.images.specs.declared.DpcOrigin.the-variants as origin
 use Rattle.timers.specs.declared.TimerAnswer.{TimerAnswer}
 use Rattle.timers.specs.declared.TimerAnswer.the-variants as timer
-use Rattle.dpc.specs.declared.reads.DpcAnswer.{DpcAnswer}
-use Rattle.dpc.specs.declared.reads.DpcAnswer.the-variants as dpc
-use Rattle.dpc.specs.declared.reads.PolicyAnswer.{PolicyAnswer}
-use Rattle.dpc.specs.declared.reads.PolicyAnswer.the-variants as policy
-use Rattle.dpc.specs.declared.reads.DpcCounters.{DpcCounters}
-use Rattle.dpc.specs.declared.reads.CountersAnswer.{CountersAnswer}
-use Rattle.dpc.specs.declared.reads.CountersAnswer.the-variants as counters
+use Rattle.dpc_reads.specs.declared.DpcAnswer.{DpcAnswer}
+use Rattle.dpc_reads.specs.declared.DpcAnswer.the-variants as dpc
+use Rattle.dpc_reads.specs.declared.PolicyAnswer.{PolicyAnswer}
+use Rattle.dpc_reads.specs.declared.PolicyAnswer.the-variants as policy
+use Rattle.dpc_reads.specs.declared.DpcCounters.{DpcCounters}
+use Rattle.dpc_reads.specs.declared.CountersAnswer.{CountersAnswer}
+use Rattle.dpc_reads.specs.declared.CountersAnswer.the-variants as counters
 use Rattle.dpc.specs.declared.work.WorkAnswer.{WorkAnswer}
 use Rattle.dpc.specs.declared.work.WorkAnswer.the-variants as work
 use Rattle.dispatcher.specs.declared.read.ThreadView.{ThreadView}

@@ -6,9 +6,9 @@ use lib.ListN.{length}
 use lib.Dec.{ltb}
 use Rattle.timers.specs.declared.TimerAnswer.{TimerAnswer}
 use Rattle.dpc.specs.Work.{Started}
-use Rattle.dpc.specs.declared.reads.DpcAnswer.{DpcAnswer}
-use Rattle.dpc.specs.declared.reads.PolicyAnswer.{PolicyAnswer}
-use Rattle.dpc.specs.declared.reads.CountersAnswer.{CountersAnswer}
+use Rattle.dpc_reads.specs.declared.DpcAnswer.{DpcAnswer}
+use Rattle.dpc_reads.specs.declared.PolicyAnswer.{PolicyAnswer}
+use Rattle.dpc_reads.specs.declared.CountersAnswer.{CountersAnswer}
 use Rattle.dispatcher.specs.declared.read.ThreadAnswer.{ThreadAnswer}
 use Rattle.dispatcher.specs.declared.read.PlaceAnswer.{PlaceAnswer}
 use Rattle.calls.specs.Images.{Imaged}

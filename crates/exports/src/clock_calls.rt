@@ -2,14 +2,14 @@
 ghost use mathlib.Core.Path.{_≡_};
 ghost use Rattle.clock.specs.Clock.{created, instruction, flushCycles, observe, advanceMicroseconds, advance100ns, advanceMilliseconds, qpc, tick64, tsc};
 ghost use Rattle.clock.specs.declared.GuestClock.{GuestClock};
-ghost use Rattle.exports.specs.ClockWords.{returned, opened, changed, readInto};
-use super::clock_words::answer;
-use super::clock_words::end;
-use super::clock_words::error_number;
-use super::clock_words::load;
-use super::clock_words::store;
+ghost use Rattle.clock_words.specs.ClockWords.{returned, opened, changed, readInto};
 use clock::Created;
 use clock::core;
+use clock_words::answer;
+use clock_words::end;
+use clock_words::error_number;
+use clock_words::load;
+use clock_words::store;
 
 #[no_mangle]
 pub extern "C" fn clock_new(

@@ -19,7 +19,7 @@ pub extern "C" fn scheduler_timer_image(
     if out.len() < 4 {
         return 27;
     }
-    let answer = scheduler::image_calls::timer_image(words, address, bytes);
+    let answer = scheduler_images::timer_image(words, address, bytes);
     put_answer(out, answer)
 }
 
@@ -35,6 +35,6 @@ pub extern "C" fn scheduler_dpc_image(
     if out.len() < 4 {
         return 27;
     }
-    let answer = scheduler::image_calls::dpc_image(words, address, bytes);
+    let answer = scheduler_images::dpc_image(words, address, bytes);
     put_answer(out, answer)
 }

@@ -5,7 +5,7 @@ ghost use mathlib.Core.Path.{_≡_};
 ghost use lib.ListN.{length};
 ghost use Rattle.model.specs.Call as call;
 ghost use Rattle.calls.specs.Called.{called, optional};
-ghost use Rattle.kernel.specs.Open as opening;
+ghost use Rattle.opening.specs.Open as opening;
 ghost use Rattle.exports.specs.SchedulerAnswer.{truth, given, changedBy, readBy, dispatchedBy, givenAll};
 use super::scheduler_answer::put_answer;
 
@@ -264,7 +264,7 @@ pub extern "C" fn scheduler_words_needed(
     if out.len() < 4 {
         return 27;
     }
-    let answer = kernel::open::words_needed(threads, objects, dpcs);
+    let answer = opening::words_needed(threads, objects, dpcs);
     put_answer(out, answer)
 }
 

@@ -6,7 +6,7 @@ use lib.ListN.{getD, length}
 use lib.Dec.{eqb, leb, ltb}
 use Rattle.words.specs.Word.{bitAt}
 use Rattle.words.specs.Layout as at
-use Rattle.kernel.specs.Open.{badLimits, wordsNeeded}
+use Rattle.opening.specs.Open.{badLimits, wordsNeeded}
 
 -- document 01: limits pass their checks
 unfoldable pub limitsPass : List ℕ → Bool

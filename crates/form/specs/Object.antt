@@ -10,7 +10,7 @@ use Rattle.tables.specs.Table.{keyAt}
 use Rattle.objects.specs.Objects.{objectsBase, objectCount}
 use Rattle.form_dpc.specs.Place.{keyRises}
 use Rattle.form_dpc.specs.Timer.{timerNumbers, dpcServes}
-use Rattle.form.specs.Thread.{live}
+use Rattle.form_threads.specs.Thread.{live}
 
 -- words that say nothing hold 0: the two flags of a mutex
 unfoldable pub mutexPasses : List ℕ → ℕ → Bool

@@ -2,7 +2,6 @@
 ghost use mathlib.Core.Path.{_≡_};
 ghost use mathlib.Core.Bool.{true};
 ghost use Rattle.form.specs.Header.{limitsPass, longEnough, countsPass, currentPasses, readyPasses, noArguments, policyPasses, lifetimesPass, headerNumbers};
-use kernel::open;
 use words::layout;
 
 // How many acceptances of DPC work there can be, and how many initializations of timers and of DPCs.
@@ -15,7 +14,7 @@ pub fn limits_pass(w: &[u64]) -> bool
     let t = words::get(w, layout::THREAD_LIMIT);
     let o = words::get(w, layout::OBJECT_LIMIT);
     let d = words::get(w, layout::DPC_LIMIT);
-    !open::has_bad_limits(t, o, d)
+    !opening::has_bad_limits(t, o, d)
 }
 
 // Document 01: long enough, for limits that pass.

@@ -5,19 +5,19 @@
 //
 //   long enough                      header::is_long_enough
 //   limits pass their checks         header::limits_pass
-//   stored numbers pass theirs       header::numbers_pass, thread::numbers_pass, object::numbers_pass, timer::numbers_pass,
+//   stored numbers pass theirs       header::numbers_pass, form_threads::numbers_pass, object::numbers_pass, timer::numbers_pass,
 //                                    dpc_records::numbers_pass
-//   and those that say nothing are 0 header::has_no_arguments, thread::exit_passes, object::mutex_passes, object::owner_lives,
+//   and those that say nothing are 0 header::has_no_arguments, form_threads::exit_passes, object::mutex_passes, object::owner_lives,
 //                                    form_dpc::mapped_passes, dpc_records::origin_passes
 //   no key stands twice              form_dpc::key_rises, dpc_records::address_stands_once
 //   threads number 1 upward          nothing to test: a thread's number is the place of its record
-//   only the current one runs        thread::runs_if_current
+//   only the current one runs        form_threads::runs_if_current
 //   owners are live                  object::owner_lives
-//   waited objects exist             thread::waits_for_known
-//   no list names one twice          thread::waits_for_each_once
-//   sequences distinct, below next   chain::sequences_rise
+//   waited objects exist             form_threads::waits_for_known
+//   no list names one twice          form_threads::waits_for_each_once
+//   sequences distinct, below next   form_chains::sequences_rise
 //   no work's sequence not given     dpc_records::sequence_is_given
-//   each chain holds its members     chain::waiters_stand_once, chain::ready_stand_once, queue::queue_stands_once
+//   each chain holds its members     form_chains::waiters_stand_once, form_chains::ready_stand_once, queue::queue_stands_once
 //   a timer's DPC serves no other    timer::dpc_serves, dpc_records::is_named_rightly
 //   demand 3's sum holds             counts::sum_holds
 //   starts less restorations         counts::starts_pass
@@ -30,10 +30,8 @@ use form_dpc::counts;
 use form_dpc::dpc_records;
 use form_dpc::queue;
 
-pub mod chain;
 pub mod header;
 pub mod object;
-pub mod thread;
 
 pub fn in_form(w: &[u64]) -> bool
     ensures { λ r. ⌜ r ≡ inForm (now (w .entry)) ⌝ }
@@ -47,7 +45,7 @@ pub fn in_form(w: &[u64]) -> bool
     if !header::numbers_pass(w) {
         return false;
     }
-    let t = thread::threads_pass(w);
+    let t = form_threads::threads_pass(w);
     if !t.pass {
         return false;
     }
@@ -58,13 +56,13 @@ pub fn in_form(w: &[u64]) -> bool
     if !d.pass {
         return false;
     }
-    if !chain::sequences_rise(w) {
+    if !form_chains::sequences_rise(w) {
         return false;
     }
-    if !chain::waiters_stand_once(w, t.waiting) {
+    if !form_chains::waiters_stand_once(w, t.waiting) {
         return false;
     }
-    if !chain::ready_stand_once(w, t.ready) {
+    if !form_chains::ready_stand_once(w, t.ready) {
         return false;
     }
     if !queue::queue_stands_once(w, d.queued) {

@@ -1,7 +1,6 @@
 // The objects in form: each record's numbers, their order, who owns the mutexes, and the timers' DPCs.
 ghost use mathlib.Core.Path.{_≡_};
 ghost use Rattle.form.specs.Object.{mutexPasses, eventPasses, objectNumbers, ownerLives, objectPasses, objectsPass};
-use super::thread;
 use form_dpc::timer;
 use words::layout;
 
@@ -59,7 +58,7 @@ fn owner_lives(w: &[u64], base: usize, i: u64) -> bool
     if owner == 0 {
         return true;
     }
-    thread::is_live(w, owner)
+    form_threads::is_live(w, owner)
 }
 
 fn object_passes(w: &[u64], base: usize, i: u64) -> bool

@@ -14,8 +14,8 @@ use Rattle.images.specs.declared.DpcPhase.{DpcPhase}
 use Rattle.images.specs.declared.DpcPhase.the-variants.{Queued}
 use Rattle.images.specs.Place.{architectureNumber, backingKind, backingBase, backingSize, backingMapped}
 use Rattle.objects.specs.Objects.{dpcFound}
-use Rattle.dpc.specs.Queue.{originPut, workPut}
-use Rattle.dpc.specs.declared.queue.Origin.{Origin}
+use Rattle.dpc_queue.specs.Queue.{originPut, workPut}
+use Rattle.dpc_queue.specs.declared.Origin.{Origin}
 use Rattle.model.specs.Lists.{given}
 use Rattle.model.specs.State.{State}
 use Rattle.model.specs.Dpcs.{addressOf, dpcAt, inPhase, putDpc, rephased, workOf}

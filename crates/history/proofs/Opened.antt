@@ -11,7 +11,7 @@ use lib.Dec.{ltb}
 use lib.ListN.{getD, set, length, length-set}
 use Rattle.threads.specs.Thread.{putThread, putWait, noWait}
 use Rattle.chains.specs.declared.Chain.{Chain}
-use Rattle.kernel.specs.Open.{badPriority, badLimits, wordsNeeded, openRefusal, cleared, limited, started}
+use Rattle.opening.specs.Open.{badPriority, badLimits, wordsNeeded, openRefusal, cleared, limited, started}
 use Rattle.model.specs.State.{Limits, Counters, Thread, running, unselected}
 use Rattle.model.specs.Threads.{threadAt}
 use Rattle.model.specs.Step.{opened}

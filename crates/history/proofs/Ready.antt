@@ -10,7 +10,7 @@ use mathlib.Core.Bool.{Bool, cond}
 use Rattle.threads.specs.declared.Thread as stored
 use Rattle.threads.specs.Thread as words
 use Rattle.chains.specs.Ready.{placedLast}
-use Rattle.waits.specs.Wake.{madeReady}
+use Rattle.wakes.specs.Wake.{madeReady}
 use Rattle.kernel.specs.Thread.{yieldedWords}
 use Rattle.model.specs.Lists.{Mem, without}
 use Rattle.model.specs.State.{State, Dispatcher, Thread, running, ready, WaitResult}

@@ -10,8 +10,8 @@ use Rattle.threads.specs.declared.Wait as stored-wait
 use Rattle.threads.specs.Thread.{putThread, putPlaces, putTerms, putWait, placesAt}
 use Rattle.objects.specs.declared.Object as stored-object
 use Rattle.objects.specs.Objects.{putObject}
-use Rattle.dpcs.specs.declared.table.NewDpc.{NewDpc}
-use Rattle.dpcs.specs.Table.{putIdle, putImage, putDpc}
+use Rattle.dpc_table.specs.declared.NewDpc.{NewDpc}
+use Rattle.dpc_table.specs.Table.{putIdle, putImage, putDpc}
 use Rattle.history_chains.specs.Chains.{Same}
 use Rattle.history.proofs.Rows.{Store, store, written, In, length-written, written-outside}
 use Rattle.history.proofs.Places.{thread-place, Scalar, Waiting}

@@ -9,9 +9,9 @@ use lib.Dec.{ltb}
 use Rattle.answers.specs.Outcome as code
 use Rattle.answers.specs.Outcome.{unless}
 use Rattle.answers.specs.declared.Answer.the-variants as answer
-use Rattle.waits.specs.Wake.{awake}
-use Rattle.expiry.specs.Advance.{expiryRefusal, expiryWords}
-use Rattle.dispatcher.specs.Advance as words
+use Rattle.wakes.specs.Wake.{awake}
+use Rattle.expiry_advance.specs.Advance.{expiryRefusal, expiryWords}
+use Rattle.advancing.specs.Advance as words
 use Rattle.model.specs.State.{State, Dispatcher, Object}
 use Rattle.model.specs.Threads.{withObjects}
 use Rattle.model.specs.Waits.{wake, timeOut}

@@ -14,12 +14,12 @@ use Rattle.dispatcher.specs.declared.read.PlaceAnswer.{PlaceAnswer}
 use Rattle.dispatcher.specs.declared.read.PlaceAnswer.the-variants as place
 use Rattle.dpc.specs.Work.{Started, startOutcome}
 use Rattle.dpc.specs.declared.work.WorkAnswer.the-variants as work
-use Rattle.dpc.specs.declared.reads.DpcAnswer.{DpcAnswer}
-use Rattle.dpc.specs.declared.reads.DpcAnswer.the-variants as dpc
-use Rattle.dpc.specs.declared.reads.PolicyAnswer.{PolicyAnswer}
-use Rattle.dpc.specs.declared.reads.PolicyAnswer.the-variants as policy
-use Rattle.dpc.specs.declared.reads.CountersAnswer.{CountersAnswer}
-use Rattle.dpc.specs.declared.reads.CountersAnswer.the-variants as counters
+use Rattle.dpc_reads.specs.declared.DpcAnswer.{DpcAnswer}
+use Rattle.dpc_reads.specs.declared.DpcAnswer.the-variants as dpc
+use Rattle.dpc_reads.specs.declared.PolicyAnswer.{PolicyAnswer}
+use Rattle.dpc_reads.specs.declared.PolicyAnswer.the-variants as policy
+use Rattle.dpc_reads.specs.declared.CountersAnswer.{CountersAnswer}
+use Rattle.dpc_reads.specs.declared.CountersAnswer.the-variants as counters
 use Rattle.timers.specs.declared.TimerAnswer.{TimerAnswer}
 use Rattle.timers.specs.declared.TimerAnswer.the-variants as timer
 use Rattle.form.specs.Form.{inForm}

@@ -6,9 +6,9 @@ use mathlib.Core.Path.{_≡_, ap, _∙_}
 use Rattle.answers.specs.declared.Answer as code
 use Rattle.dispatcher.specs.declared.read.ThreadAnswer.{ThreadAnswer}
 use Rattle.dispatcher.specs.declared.read.PlaceAnswer.{PlaceAnswer}
-use Rattle.dpc.specs.declared.reads.DpcAnswer.{DpcAnswer}
-use Rattle.dpc.specs.declared.reads.PolicyAnswer.{PolicyAnswer}
-use Rattle.dpc.specs.declared.reads.CountersAnswer.{CountersAnswer}
+use Rattle.dpc_reads.specs.declared.DpcAnswer.{DpcAnswer}
+use Rattle.dpc_reads.specs.declared.PolicyAnswer.{PolicyAnswer}
+use Rattle.dpc_reads.specs.declared.CountersAnswer.{CountersAnswer}
 use Rattle.timers.specs.declared.TimerAnswer.{TimerAnswer}
 use Rattle.form.specs.Form.{inForm}
 use Rattle.call_answers.specs.Told.{told, toldTimer, toldDpc, toldPolicy, toldCounters, toldObject}

@@ -13,7 +13,7 @@ use lib.ListN.{getD, set, length, length-set}
 use Rattle.words.specs.Layout.{entryAt}
 use Rattle.objects.specs.Objects.{dpcsBase}
 use Rattle.dpcs.specs.Record.{placeAt, dpcCount, queueChain}
-use Rattle.dpcs.specs.Table.{numberPut, numberTo, numberedIn, numbered, newNumber}
+use Rattle.dpc_table.specs.Table.{numberPut, numberTo, numberedIn, numbered, newNumber}
 use Rattle.dpcs.proofs.RecordLaws.{base-least, count-most}
 use Rattle.model.specs.Lists.{Mem}
 use Rattle.model.proofs.ListLaws.{not-both}

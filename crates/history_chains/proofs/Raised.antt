@@ -11,7 +11,7 @@ use Rattle.words.specs.Layout as at
 use Rattle.chains.specs.declared.Chain.{Chain}
 use Rattle.chains.specs.Chain.{linkAt}
 use Rattle.dpcs.specs.Record.{queueChain}
-use Rattle.dpcs.specs.Table.{raisedNumber, numberRaised, linksRaisedIn, linksRaised}
+use Rattle.dpc_table.specs.Table.{raisedNumber, numberRaised, linksRaisedIn, linksRaised}
 use Rattle.model.specs.Lists.{Mem}
 use Rattle.history_chains.specs.Chains.{Holds, Standing, Same, Places, Apart}
 use Rattle.history_chains.proofs.Frames.{read-other, read-same, in-range}

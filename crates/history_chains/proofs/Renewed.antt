@@ -13,9 +13,9 @@ use Rattle.chains.specs.declared.Chain.{Chain}
 use Rattle.chains.specs.Chain.{linkAt, nextOf}
 use Rattle.objects.specs.Objects.{dpcsBase}
 use Rattle.dpcs.specs.Record.{placeAt, queueChain}
-use Rattle.dpcs.specs.Table.{newNumber, linkRenewed, linksRenewedIn, linksRenewed, relinked}
+use Rattle.dpc_table.specs.Table.{newNumber, linkRenewed, linksRenewedIn, linksRenewed, relinked}
 use Rattle.dpcs.proofs.RecordLaws.{base-least}
-use Rattle.dpcs.proofs.TableLaws.{renewed-stop, renewed-more}
+use Rattle.dpc_table.proofs.TableLaws.{renewed-stop, renewed-more}
 use Rattle.model.specs.Lists.{Mem, Distinct}
 use Rattle.history_chains.specs.Chains.{Linked, lastFrom, Holds, Standing, Same, Own, Places, Apart}
 use Rattle.history_chains.specs.Numbers.{Told}

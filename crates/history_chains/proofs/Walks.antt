@@ -9,7 +9,7 @@ use borrow.Author.Tests.{ne-eqb}
 use lib.ListN.{getD, length}
 use Rattle.chains.specs.declared.Chain.{Chain}
 use Rattle.chains.specs.Chain.{linkAt, firstOf, nextOf}
-use Rattle.dpc.specs.Reads.{stepped}
+use Rattle.dpc_reads.specs.Reads.{stepped}
 use Rattle.model.specs.Lists.{Mem}
 use Rattle.history_chains.specs.Chains.{Linked, Holds, Standing, along, back}
 use Rattle.history_chains.proofs.Frames.{link-first, standing-length}

@@ -13,8 +13,8 @@ use Rattle.chains.specs.Chain.{firstOf}
 use Rattle.images.specs.declared.Dpc.{Dpc}
 use Rattle.dpcs.specs.Record as record-words
 use Rattle.dpcs.specs.Record.{placeAt, numberOf, queueChain}
-use Rattle.dpc.specs.Reads as words
-use Rattle.dpc.specs.declared.reads.DpcAnswer.the-variants as read
+use Rattle.dpc_reads.specs.Reads as words
+use Rattle.dpc_reads.specs.declared.DpcAnswer.the-variants as read
 use Rattle.answers.specs.declared.Answer as code
 use Rattle.answers.specs.declared.Answer.the-variants as answer
 use Rattle.call_answers.specs.Told.{told, toldDpc, toldPolicy, toldCounters}

@@ -11,7 +11,7 @@ use Rattle.chains.specs.declared.Chain.{Chain}
 use Rattle.chains.specs.Chain.{firstOf}
 use Rattle.images.specs.declared.Dpc.{Dpc}
 use Rattle.dpcs.specs.Record.{numberOf, queueChain}
-use Rattle.dpc.specs.Reads as words
+use Rattle.dpc_reads.specs.Reads as words
 use Rattle.model.specs.Lists.{nth, first, present}
 use Rattle.model.specs.State.{State}
 use Rattle.model.specs.Dpcs.{dpcAt, activeDpc}

@@ -12,7 +12,7 @@ use Rattle.images.specs.declared.DpcWork.{DpcWork}
 use Rattle.images.specs.declared.DpcPhase.{DpcPhase}
 use Rattle.images.specs.declared.DpcPhase.the-variants.{Idle, Queued, Running, Returning}
 use Rattle.dpcs.specs.Record.{placeAt, numberOf}
-use Rattle.dpc.specs.Queue.{raised}
+use Rattle.dpc_queue.specs.Queue.{raised}
 use Rattle.dpc.specs.Work as words
 use Rattle.answers.specs.Outcome.{outcome}
 use Rattle.answers.specs.declared.Answer.the-variants as answer

@@ -16,7 +16,7 @@ use Rattle.images.specs.declared.DpcPhase.{DpcPhase}
 use Rattle.images.specs.declared.DpcPhase.the-variants.{Idle, Queued, Running, Returning}
 use Rattle.dpcs.specs.Record as record-words
 use Rattle.dpcs.specs.Record.{placeAt, numberOf, queueChain}
-use Rattle.dpc.specs.Queue.{raised}
+use Rattle.dpc_queue.specs.Queue.{raised}
 use Rattle.dpc.specs.Work as words
 use Rattle.dpc.specs.declared.work.WorkAnswer.the-variants as start
 use Rattle.call_answers.specs.Told.{toldWork}

@@ -10,7 +10,7 @@ use lib.Dec.{eqb}
 use Rattle.words.specs.Layout.{entryAt}
 use Rattle.objects.specs.Objects.{objectsBase}
 use Rattle.expiry.specs.Expire.{workQueued, settled, expiredOne, expiredList}
-use Rattle.expiry.specs.Advance as words
+use Rattle.expiry_advance.specs.Advance as words
 use Rattle.images.specs.declared.Timer.{Timer}
 use Rattle.model.specs.Lists.{Mem, nth, present}
 use Rattle.model.specs.Table.{Rising}

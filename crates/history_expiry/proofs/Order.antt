@@ -10,8 +10,8 @@ use lib.Dec.{eqb, leb}
 use Rattle.words.specs.Layout.{entryAt}
 use Rattle.objects.specs.Objects.{objectCount}
 use Rattle.expiry.specs.Due as words
-use Rattle.expiry.specs.Order.{dueAt, goesFirst, put, sorted}
-use Rattle.expiry.specs.Advance.{arranged, order}
+use Rattle.expiry_order.specs.Order.{dueAt, goesFirst, put, sorted}
+use Rattle.expiry_advance.specs.Advance.{arranged, order}
 use Rattle.images.specs.declared.Timer.{Timer}
 use Rattle.model.specs.Lists.{nth, keep}
 use Rattle.model.specs.State.{State, Object, mutex, event, timer, Policy, unselected, cpu0Dispatch}

@@ -14,7 +14,7 @@ use Rattle.words.specs.Layout.{entryAt}
 use Rattle.dpcs.specs.Record.{numberOf, placeAt}
 use Rattle.expiry.specs.Check.{oneRefusal, counts, countedAfter, countsAt, refusalIn, listRefusal}
 use Rattle.expiry.specs.declared.check.Counts.{Counts}
-use Rattle.expiry.specs.Advance as words
+use Rattle.expiry_advance.specs.Advance as words
 use Rattle.images.specs.declared.Timer.{Timer}
 use Rattle.images.specs.declared.Dpc.{Dpc}
 use Rattle.images.specs.declared.DpcPhase.{DpcPhase}

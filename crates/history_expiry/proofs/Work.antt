@@ -9,8 +9,8 @@ use borrow.Author.Tests.{eq-eqb, ne-eqb, eqb-true, eqb-false}
 use lib.ListN.{getD}
 use lib.Dec.{eqb}
 use Rattle.dpcs.specs.Record.{numberOf}
-use Rattle.dpc.specs.Queue as queue
-use Rattle.dpc.specs.declared.queue.Origin.{Origin}
+use Rattle.dpc_queue.specs.Queue as queue
+use Rattle.dpc_queue.specs.declared.Origin.{Origin}
 use Rattle.expiry.specs.Expire as words
 use Rattle.images.specs.declared.Timer.{Timer}
 use Rattle.images.specs.declared.Dpc.{Dpc}

@@ -11,7 +11,7 @@ use lib.Dec.{eqb}
 use Rattle.chains.specs.declared.Chain.{Chain}
 use Rattle.chains.specs.Chain.{linkAt, firstOf, nextOf}
 use Rattle.form_dpc.specs.Queue.{chainEnd, queuedAt, queueIn}
-use Rattle.form.specs.Chain.{memberPasses, chainIn, chainSize}
+use Rattle.form_chains.specs.Chain.{memberPasses, chainIn, chainSize}
 use Rattle.model.specs.Lists.{Mem, Distinct}
 use Rattle.history_chains.specs.Chains.{Linked, lastFrom}
 use Rattle.history_chains.proofs.Frames.{link-first}

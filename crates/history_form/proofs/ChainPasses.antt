@@ -10,7 +10,7 @@ use lib.ListN.{getD, length}
 use Rattle.chains.specs.declared.Chain.{Chain}
 use Rattle.chains.specs.Chain.{linkAt, firstOf, nextOf}
 use Rattle.form_dpc.specs.Queue.{chainEnd, queuedAt, queueIn}
-use Rattle.form.specs.Chain.{memberPasses, chainIn, chainSize}
+use Rattle.form_chains.specs.Chain.{memberPasses, chainIn, chainSize}
 use Rattle.model.specs.Lists.{Mem}
 use Rattle.history_chains.specs.Chains.{Linked, lastFrom, Holds}
 use Rattle.history_chains.proofs.Frames.{link-first}

@@ -10,7 +10,7 @@ use lib.Dec.{eqb, leb}
 use Rattle.threads.specs.Thread.{known}
 use Rattle.images.specs.Place.{architectureOf, backingOf, locationRefusal, timerSize}
 use Rattle.timers.specs.Record.{timerAt, backingAt}
-use Rattle.form.specs.Thread.{hasState, live}
+use Rattle.form_threads.specs.Thread.{hasState, live}
 use Rattle.model.specs.State.{timer}
 use Rattle.model.specs.Threads.{isThread, isLive, hasExited, statusOf}
 use Rattle.model.specs.Waits.{keyOf}

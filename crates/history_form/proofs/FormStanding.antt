@@ -12,9 +12,9 @@ use lib.Dec.{eqb, leb}
 use Rattle.words.specs.Layout as at
 use Rattle.chains.specs.Chain.{linkAt, firstOf, nextOf}
 use Rattle.chains.specs.Ready.{waitersChain}
-use Rattle.form.specs.Thread.{hasState}
-use Rattle.form.specs.Chain as form
-use Rattle.form.specs.Chain.{sequencesIn, sequencesRise}
+use Rattle.form_threads.specs.Thread.{hasState}
+use Rattle.form_chains.specs.Chain as form
+use Rattle.form_chains.specs.Chain.{sequencesIn, sequencesRise}
 use Rattle.model.specs.Lists.{Mem, member}
 use Rattle.model.specs.State.{Thread, Status, exited}
 use Rattle.model.specs.Threads.{threadAt, waitOf, isReady, isWaiting, isRunning}

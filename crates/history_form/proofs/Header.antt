@@ -7,7 +7,7 @@ use native.Mathlib.Omega.{arith}
 use borrow.Author.Tests.{eq-eqb, ne-eqb, le-leb, le-ltb}
 use lib.ListN.{getD, length}
 use lib.Dec.{eqb, ltb}
-use Rattle.kernel.specs.Open.{badLimits}
+use Rattle.opening.specs.Open.{badLimits}
 use Rattle.form.specs.Header.{limitsPass, longEnough, countsPass, currentPasses, readyPasses, noArguments, policyPasses, lifetimesPass, headerNumbers}
 use Rattle.model.specs.State.{State, Thread, Policy, unselected, cpu0Dispatch}
 use Rattle.model.specs.Threads.{threadAt, isRunning}

@@ -8,7 +8,7 @@ use borrow.Author.Tests.{eqb-true, eqb-false, leb-true, ltb-false, not-true, le-
 use lib.ListN.{getD, length}
 use lib.Dec.{eqb, leb, ltb}
 use Rattle.words.specs.Word.{bitAt}
-use Rattle.kernel.specs.Open.{badLimits, wordsNeeded}
+use Rattle.opening.specs.Open.{badLimits, wordsNeeded}
 use Rattle.threads.specs.Thread.{threadCount}
 use Rattle.objects.specs.Objects.{objectsBase, dpcsBase, objectCount}
 use Rattle.dpcs.specs.Record.{dpcCount}

@@ -9,8 +9,8 @@ use lib.ListN.{getD, length}
 use lib.Dec.{leb, ltb}
 use Rattle.chains.specs.Ready.{waitersChain}
 use Rattle.threads.specs.Thread.{known}
-use Rattle.form.specs.Thread.{hasState, stateCountIn, stateCount}
-use Rattle.form.specs.Chain.{hasPriority, memberPasses, chainSize, waitersStandOnce}
+use Rattle.form_threads.specs.Thread.{hasState, stateCountIn, stateCount}
+use Rattle.form_chains.specs.Chain.{hasPriority, memberPasses, chainSize, waitersStandOnce}
 use Rattle.model.specs.Lists.{Mem, member}
 use Rattle.history_chains.specs.Chains.{Holds, Standing}
 use Rattle.history_form.specs.Decoded.{chainOf}

@@ -13,7 +13,7 @@ use Rattle.tables.specs.Table.{keyAt}
 use Rattle.objects.specs.Objects.{objectsBase, objectCount}
 use Rattle.form_dpc.specs.Place.{keyRises}
 use Rattle.form_dpc.specs.Timer.{timerNumbers, servesIt, dpcServes}
-use Rattle.form.specs.Thread.{live}
+use Rattle.form_threads.specs.Thread.{live}
 use Rattle.form.specs.Object.{mutexPasses, eventPasses, objectNumbers, ownerLives, objectPasses, objectsIn, objectsPass}
 use Rattle.history.specs.Agree.{objectsFrom}
 use Rattle.history.proofs.Places.{entry-place}

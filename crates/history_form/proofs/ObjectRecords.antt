@@ -12,7 +12,7 @@ use Rattle.words.specs.Layout.{entryAt}
 use Rattle.tables.specs.Table.{keyAt}
 use Rattle.objects.specs.Objects.{objectsBase}
 use Rattle.form_dpc.specs.Timer.{timerNumbers, dpcServes}
-use Rattle.form.specs.Thread.{hasState, live}
+use Rattle.form_threads.specs.Thread.{hasState, live}
 use Rattle.form.specs.Object.{mutexPasses, eventPasses, objectNumbers, ownerLives, objectPasses, objectsIn, objectsPass}
 use Rattle.model.specs.Lists.{nth, Mem}
 use Rattle.model.specs.State.{State, Status, running, ready, waiting, exited, Mutex, Event, Object, mutex, event, timer}

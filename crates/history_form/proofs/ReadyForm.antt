@@ -10,8 +10,8 @@ use borrow.Author.Tests.{eq-eqb, ne-eqb, eqb-true}
 use lib.ListN.{getD, length}
 use lib.Dec.{eqb}
 use Rattle.chains.specs.Ready.{readyChain}
-use Rattle.form.specs.Thread.{hasState, stateCount}
-use Rattle.form.specs.Chain.{queueSize, queuesIn, readySize, readyStandOnce}
+use Rattle.form_threads.specs.Thread.{hasState, stateCount}
+use Rattle.form_chains.specs.Chain.{queueSize, queuesIn, readySize, readyStandOnce}
 use Rattle.model.specs.Lists.{Mem, Distinct, member, keep}
 use Rattle.model.specs.Threads.{threadAt}
 use Rattle.model.proofs.ListLaws.{mem-append, keep-yes, keep-no}

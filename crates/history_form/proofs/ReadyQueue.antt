@@ -11,7 +11,7 @@ use lib.Dec.{eqb}
 use Rattle.words.specs.Word.{bitAt}
 use Rattle.words.specs.Layout as at
 use Rattle.chains.specs.Ready.{readyChain}
-use Rattle.form.specs.Chain.{flag, bitPasses, queueSize, queuesIn, hasPriority, memberPasses, chainSize}
+use Rattle.form_chains.specs.Chain.{flag, bitPasses, queueSize, queuesIn, hasPriority, memberPasses, chainSize}
 use Rattle.model.specs.Lists.{Mem, Distinct}
 use Rattle.model.specs.Threads.{threadAt}
 use Rattle.history_chains.specs.Chains.{Holds, lastFrom}

@@ -12,8 +12,8 @@ use lib.Dec.{eqb}
 use Rattle.words.specs.Word.{bitAt}
 use Rattle.words.specs.Layout as at
 use Rattle.chains.specs.Ready.{readyChain}
-use Rattle.form.specs.Thread.{hasState, stateCount}
-use Rattle.form.specs.Chain.{flag, bitPasses, queueSize, queuesIn, readySize, readyStandOnce, hasPriority, memberPasses}
+use Rattle.form_threads.specs.Thread.{hasState, stateCount}
+use Rattle.form_chains.specs.Chain.{flag, bitPasses, queueSize, queuesIn, readySize, readyStandOnce, hasPriority, memberPasses}
 use Rattle.model.specs.Lists.{Mem, member}
 use Rattle.model.specs.State.{State, Thread, Status, running, ready, waiting, exited}
 use Rattle.model.specs.Threads.{isReady, statusOf, priorityOf, threadOf}

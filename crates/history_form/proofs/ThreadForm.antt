@@ -11,8 +11,8 @@ use lib.Dec.{eqb, leb, ltb}
 use Rattle.words.specs.Layout as at
 use Rattle.threads.specs.Thread.{threadOf, threadCount, countOf, placesAt}
 use Rattle.waits.specs.Lists.{kindIn, badKindIn, unknownIn, duplicateIn}
-use Rattle.kernel.specs.Open.{badPriority}
-use Rattle.form.specs.Thread.{hasState, badState, recordPasses, exitPasses, waitPasses, delayPasses, threadNumbers, runsIfCurrent, waitsForKnown, waitsForEachOnce, threadPasses, threadsIn, threadsPass}
+use Rattle.opening.specs.Open.{badPriority}
+use Rattle.form_threads.specs.Thread.{hasState, badState, recordPasses, exitPasses, waitPasses, delayPasses, threadNumbers, runsIfCurrent, waitsForKnown, waitsForEachOnce, threadPasses, threadsIn, threadsPass}
 use Rattle.model.proofs.ListLaws.{neither}
 use Rattle.history.specs.Agree.{WaitKept}
 use Rattle.history.proofs.Places.{thread-place}

@@ -11,8 +11,8 @@ use lib.Dec.{eqb}
 use Rattle.words.specs.Layout as at
 use Rattle.threads.specs.Thread as words
 use Rattle.waits.specs.Lists.{kindIn, badKindIn}
-use Rattle.kernel.specs.Open.{badPriority}
-use Rattle.form.specs.Thread.{hasState, badState, recordPasses, exitPasses, waitPasses, delayPasses, threadNumbers, runsIfCurrent}
+use Rattle.opening.specs.Open.{badPriority}
+use Rattle.form_threads.specs.Thread.{hasState, badState, recordPasses, exitPasses, waitPasses, delayPasses, threadNumbers, runsIfCurrent}
 use Rattle.model.specs.Lists.{present}
 use Rattle.model.specs.State.{State, Status, running, ready, waiting, exited, WaitResult, satisfied, timeout}
 use Rattle.model.specs.Threads.{threadOf, statusOf, isRunning}

@@ -12,7 +12,7 @@ use Rattle.threads.specs.Thread as words
 use Rattle.objects.specs.Objects.{placeOf}
 use Rattle.waits.specs.Object.{valid}
 use Rattle.waits.specs.Lists.{kindIn, keyIn, isPair, hasPair, duplicateIn, unknownIn}
-use Rattle.form.specs.Thread.{hasState, waitsForKnown, waitsForEachOnce, threadPasses, threadsIn, threadsPass}
+use Rattle.form_threads.specs.Thread.{hasState, waitsForKnown, waitsForEachOnce, threadPasses, threadsIn, threadsPass}
 use Rattle.model.specs.Lists.{nth, present, given}
 use Rattle.model.specs.State.{State, Status, running, ready, waiting, exited, Wait, Named, Object}
 use Rattle.model.specs.Threads.{statusOf, isThread}

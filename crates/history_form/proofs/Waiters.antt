@@ -11,9 +11,9 @@ use lib.Dec.{eqb, leb}
 use Rattle.words.specs.Layout.{threadAt}
 use Rattle.chains.specs.Chain.{linkAt, firstOf, nextOf}
 use Rattle.chains.specs.Ready.{waitersChain}
-use Rattle.form.specs.Thread.{hasState, stateCountIn, stateCount}
-use Rattle.form.specs.Chain.{sequenceAt, sequencesIn, sequencesRise, hasPriority, memberPasses, chainSize, waitersStandOnce}
-use Rattle.form.specs.Thread as form
+use Rattle.form_threads.specs.Thread.{hasState, stateCountIn, stateCount}
+use Rattle.form_chains.specs.Chain.{sequenceAt, sequencesIn, sequencesRise, hasPriority, memberPasses, chainSize, waitersStandOnce}
+use Rattle.form_threads.specs.Thread as form
 use Rattle.model.specs.Lists.{Mem, member}
 use Rattle.model.specs.State.{State, Thread, Status, running, ready, waiting, exited, Wait}
 use Rattle.model.specs.Threads.{isWaiting, statusOf, waitOf}

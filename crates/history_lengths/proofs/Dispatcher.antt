@@ -6,8 +6,8 @@ use mathlib.Core.Path.{_≡_, refl, _∙_}
 use lib.ListN.{length, length-set}
 use Rattle.threads.specs.declared.Wait.{Wait}
 use Rattle.threads.specs.Thread.{threadCount}
-use Rattle.dispatcher.specs.Wait.{withResult, left, parked, blockedWords, granted, timedOut, decided, decidedList, waited, delayed}
-use Rattle.dispatcher.specs.Advance.{expired, expiredIn, expiredAll, advanced}
+use Rattle.waiting.specs.Wait.{withResult, left, parked, blockedWords, granted, timedOut, decided, decidedList, waited, delayed}
+use Rattle.advancing.specs.Advance.{expired, expiredIn, expiredAll, advanced}
 use Rattle.dispatcher.specs.Dispatch.{Dispatched, ran}
 use Rattle.dispatcher.specs.Dispatched.{dispatched}
 use Rattle.history_chains.proofs.Frames.{length-pushed, length-removed}

@@ -4,8 +4,8 @@ use mathlib.Core.List.{List}
 use mathlib.Core.Bool.{Bool, true, false, cond}
 use mathlib.Core.Path.{_≡_, refl}
 use lib.ListN.{length, length-set}
-use Rattle.dpc.specs.declared.queue.Origin.{Origin}
-use Rattle.dpc.specs.Queue.{raised, originPut, workPut, accepted, withdrawn}
+use Rattle.dpc_queue.specs.declared.Origin.{Origin}
+use Rattle.dpc_queue.specs.Queue.{raised, originPut, workPut, accepted, withdrawn}
 use Rattle.dpc.specs.Work.{Started, policySet, configured, queueInserted, queueRemoved, headStarted, workStarted, returning, workReturned, idle, workRestored}
 use Rattle.history_chains.proofs.Frames.{length-pushed, length-unlinked, length-removed}
 use Rattle.history_lengths.proofs.Lengths.{cond-same, words-cond}

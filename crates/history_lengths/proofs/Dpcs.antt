@@ -6,9 +6,9 @@ use lib.ListN.{length, length-set}
 use Rattle.chains.specs.declared.Chain.{Chain}
 use Rattle.chains.specs.Chain.{nextOf}
 use Rattle.objects.specs.Objects.{dpcsBase}
-use Rattle.dpcs.specs.declared.table.NewDpc.{NewDpc}
+use Rattle.dpc_table.specs.declared.NewDpc.{NewDpc}
 use Rattle.dpcs.specs.Record.{dpcCount}
-use Rattle.dpcs.specs.Table.{linksRaised, inserted, entered, numbered, linkRenewed, linksRenewedIn, linksRenewed, relinked, settled, closedUp}
+use Rattle.dpc_table.specs.Table.{linksRaised, inserted, entered, numbered, linkRenewed, linksRenewedIn, linksRenewed, relinked, settled, closedUp}
 use Rattle.history_chains.proofs.Raised.{length-number, length-links}
 use Rattle.history_tables.proofs.Moves.{length-opened}
 use Rattle.history_tables.proofs.Compacts.{length-compacted}

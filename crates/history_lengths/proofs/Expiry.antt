@@ -6,7 +6,7 @@ use lib.ListN.{length, length-set}
 use Rattle.words.specs.Layout.{entryAt}
 use Rattle.objects.specs.Objects.{objectsBase}
 use Rattle.expiry.specs.Expire.{queuedFor, workQueued, unnamed, settled, expiredOne, expiredList}
-use Rattle.expiry.specs.Advance.{ran, order, expiryWords}
+use Rattle.expiry_advance.specs.Advance.{ran, order, expiryWords}
 use Rattle.history_lengths.proofs.Lengths.{length-cond, cond-same}
 use Rattle.history_lengths.proofs.Dpc.{length-raised, length-accepted}
 

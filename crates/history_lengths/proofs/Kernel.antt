@@ -4,7 +4,7 @@ use mathlib.Core.List.{List}
 use mathlib.Core.Path.{_≡_, refl}
 use lib.ListN.{length, length-set}
 use Rattle.threads.specs.declared.Thread.{Thread}
-use Rattle.kernel.specs.Open.{cleared, limited, started, opened}
+use Rattle.opening.specs.Open.{cleared, limited, started, opened}
 use Rattle.kernel.specs.Thread.{createdThread, created, withPriority, moved, prioritized, yieldedWords, yielded, exitedWords, terminated}
 use Rattle.history_chains.proofs.Marks.{length-placed, length-unplaced}
 use Rattle.history_lengths.proofs.Lengths.{length-cond, cond-same, words-cond}

@@ -6,7 +6,7 @@ use mathlib.Core.Path.{_≡_, refl, _∙_}
 use lib.ListN.{getD, set, length, length-set}
 use Rattle.objects.specs.Objects.{objectsBase, objectCount}
 use Rattle.sync.specs.Mutexes as mutexes
-use Rattle.sync.specs.Events as events
+use Rattle.events.specs.Events as events
 use Rattle.sync.specs.Release.{copiedIn, copied, moved, retiredIn, retired, eventsRetired}
 use Rattle.history_lengths.proofs.Lengths.{length-cond, cond-same, words-cond}
 use Rattle.history_lengths.proofs.Objects.{length-entered}

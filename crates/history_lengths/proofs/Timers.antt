@@ -10,10 +10,10 @@ use Rattle.arch.specs.declared.Architecture.{Architecture}
 use Rattle.images.specs.declared.TimerBacking.{TimerBacking}
 use Rattle.objects.specs.Objects.{objectsBase, objectCount, dpcsBase}
 use Rattle.dpcs.specs.Record.{dpcCount}
-use Rattle.timers.specs.declared.arm.Setting.{Setting}
+use Rattle.arming.specs.declared.Setting.{Setting}
 use Rattle.timers.specs.Record.{eachIn}
 use Rattle.timers.specs.Initialize.{neverSet, located, recordPut, timerInitialized, dpcInitialized}
-use Rattle.timers.specs.Arm.{named, unnamed, settingPut, armed, timerSet, withdrawnOwn, disarmed, timerCancelled, setFrom, timerSetSigned}
+use Rattle.arming.specs.Arm.{named, unnamed, settingPut, armed, timerSet, withdrawnOwn, disarmed, timerCancelled, setFrom, timerSetSigned}
 use Rattle.timers.specs.Release.{timerMarked, timersMarked, timersClosed, dpcMarked, dpcsMarked, timersRetired}
 use Rattle.history_tables.proofs.Compacts.{length-compacted}
 use Rattle.history_lengths.proofs.Lengths.{length-cond, cond-same, words-cond}

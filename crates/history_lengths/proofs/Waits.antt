@@ -7,7 +7,7 @@ use Rattle.chains.specs.Chain.{firstOf, nextOf}
 use Rattle.chains.specs.Ready.{waitersChain}
 use Rattle.waits.specs.Object.{taken}
 use Rattle.waits.specs.Lists.{kindIn, keyIn, takenList, takenOwn, takesList, takesOwn}
-use Rattle.waits.specs.Wake.{madeReady, awoken, visited, visitedTo, passed, awake}
+use Rattle.wakes.specs.Wake.{madeReady, awoken, visited, visitedTo, passed, awake}
 use Rattle.history_chains.proofs.Frames.{length-unlinked}
 use Rattle.history_chains.proofs.Marks.{length-placed}
 use Rattle.history_lengths.proofs.Lengths.{length-cond, cond-same}

@@ -10,8 +10,8 @@ use Rattle.threads.specs.Thread as words
 use Rattle.chains.specs.Chain.{firstOf, nextOf}
 use Rattle.chains.specs.Ready.{waitersChain}
 use Rattle.waits.specs.Lists.{hasPair}
-use Rattle.waits.specs.Wake as code
-use Rattle.waits.specs.Wake.{waitsIn}
+use Rattle.wakes.specs.Wake as code
+use Rattle.wakes.specs.Wake.{waitsIn}
 use Rattle.sync.specs.Mutexes.{waitsFor, waitersIn}
 use Rattle.model.specs.Lists.{any, countOf, Mem, member}
 use Rattle.model.specs.State.{State, Thread, Status, running, ready, waiting, exited, Named}

@@ -6,7 +6,7 @@ use mathlib.Core.Path.{_≡_, sym, ap, _∙_}
 use native.Mathlib.Omega.{arith}
 use lib.ListN.{getD}
 use Rattle.images.specs.declared.Dpc.{Dpc}
-use Rattle.dpcs.specs.declared.table.NewDpc.{NewDpc}
+use Rattle.dpc_table.specs.declared.NewDpc.{NewDpc}
 use Rattle.model.proofs.TableLaws.{none-some, some-same}
 use Rattle.history_tables.specs.Tables.{NoLink, Local, DpcAt}
 use Rattle.history_tables.proofs.Holds.{row-local}

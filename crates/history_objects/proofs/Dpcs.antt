@@ -16,7 +16,7 @@ use Rattle.images.specs.declared.TimerBacking.{TimerBacking}
 use Rattle.images.specs.Place.{dpcSize, locationRefusal}
 use Rattle.images.proofs.PlaceLaws.{located}
 use Rattle.dpcs.specs.Named as named
-use Rattle.dpcs.specs.Table.{entered}
+use Rattle.dpc_table.specs.Table.{entered}
 use Rattle.timers.specs.Record.{busy}
 use Rattle.timers.specs.Initialize as code
 use Rattle.answers.specs.declared.Answer.the-variants as answer

@@ -11,9 +11,9 @@ use lib.ListN.{getD, length}
 use Rattle.chains.specs.declared.Chain.{Chain}
 use Rattle.chains.specs.Chain.{linkAt}
 use Rattle.images.specs.declared.Dpc.{Dpc}
-use Rattle.dpcs.specs.declared.table.NewDpc.{NewDpc}
-use Rattle.dpcs.specs.Table as code
-use Rattle.dpcs.specs.Table.{entered, raisedNumber}
+use Rattle.dpc_table.specs.declared.NewDpc.{NewDpc}
+use Rattle.dpc_table.specs.Table as code
+use Rattle.dpc_table.specs.Table.{entered, raisedNumber}
 use Rattle.model.specs.Lists.{Mem, nth, present}
 use Rattle.model.specs.Table.{Rising}
 use Rattle.model.specs.State.{State}

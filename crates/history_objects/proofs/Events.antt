@@ -11,9 +11,9 @@ use lib.Dec.{eqb}
 use Rattle.words.specs.Layout.{entryAt}
 use Rattle.objects.specs.Objects as objects
 use Rattle.objects.specs.Objects.{entered, placeOf, objectsBase}
-use Rattle.waits.specs.Wake as wake
-use Rattle.sync.specs.Events as code
-use Rattle.sync.specs.Events.{newEvent, stateAt}
+use Rattle.wakes.specs.Wake as wake
+use Rattle.events.specs.Events as code
+use Rattle.events.specs.Events.{newEvent, stateAt}
 use Rattle.sync.specs.Release.{isEvent, isNth, passedTo, nthIn, nthEvent, eventStates}
 use Rattle.answers.specs.declared.Answer.the-variants as answer
 use Rattle.answers.specs.Outcome.{outcome}

@@ -8,7 +8,7 @@ use native.Mathlib.Omega.{arith}
 use lib.Dec.{eqb}
 use Rattle.objects.specs.Objects as objects
 use Rattle.objects.specs.Objects.{entered, placeOf}
-use Rattle.waits.specs.Wake as wake
+use Rattle.wakes.specs.Wake as wake
 use Rattle.sync.specs.Mutexes as code
 use Rattle.sync.specs.Mutexes.{ownerOf, newMutex}
 use Rattle.answers.specs.declared.Answer.the-variants as answer

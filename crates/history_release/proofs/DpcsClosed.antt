@@ -11,7 +11,7 @@ use Rattle.images.specs.declared.Dpc.{Dpc}
 use Rattle.images.specs.declared.DpcPhase.{DpcPhase}
 use Rattle.images.specs.declared.DpcPhase.the-variants.{Idle, Queued, Running, Returning}
 use Rattle.objects.specs.Objects.{dpcsBase}
-use Rattle.dpcs.specs.Table.{closedUp}
+use Rattle.dpc_table.specs.Table.{closedUp}
 use Rattle.timers.specs.Record.{dpcSizeAt, eachIn}
 use Rattle.timers.specs.Release.{dpcStands, dpcMarked, dpcsMarked}
 use Rattle.model.specs.Lists.{keep, Mem}

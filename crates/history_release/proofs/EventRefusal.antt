@@ -9,7 +9,7 @@ use lib.Dec.{eqb, leb, ltb}
 use lib.ListN.{length}
 use Rattle.sync.specs.Release.{isEvent, keyHeld, isHeld, heldIn, anyHeld, releaseRefusal}
 use Rattle.timers.specs.Record.{someIn}
-use Rattle.waits.specs.Wake.{waitsOn}
+use Rattle.wakes.specs.Wake.{waitsOn}
 use Rattle.words.specs.Layout.{entryAt}
 use Rattle.model.specs.Lists.{any}
 use Rattle.model.specs.State.{State, Event, Object, mutex, event, timer}

@@ -6,7 +6,7 @@ use mathlib.Core.Path.{_≡_, sym, ap, subst}
 use native.Mathlib.Omega.{arith}
 use lib.ListN.{getD, length}
 use Rattle.images.specs.declared.Dpc.{Dpc}
-use Rattle.dpcs.specs.Table.{closedUp}
+use Rattle.dpc_table.specs.Table.{closedUp}
 use Rattle.timers.specs.Release.{dpcsMarked}
 use Rattle.model.specs.Lists.{keep, Mem, present}
 use Rattle.model.specs.State.{State}

@@ -10,7 +10,7 @@ use Rattle.call_answers.specs.Told.{told}
 use Rattle.images.specs.declared.Timer.{Timer}
 use Rattle.images.specs.declared.Dpc.{Dpc}
 use Rattle.images.specs.declared.DpcPhase.the-variants.{Idle}
-use Rattle.dpcs.specs.Table.{closedUp}
+use Rattle.dpc_table.specs.Table.{closedUp}
 use Rattle.timers.specs.Release.{releaseRefusal, timerRelease, timersMarked, timersClosed, dpcsMarked, timersRetired}
 use Rattle.model.specs.Lists.{keep, any, Mem, given}
 use Rattle.model.specs.State.{State, Object, mutex, event, timer}

@@ -14,7 +14,7 @@ use Rattle.objects.specs.Objects.{dpcsBase}
 use Rattle.chains.specs.declared.Chain.{Chain}
 use Rattle.chains.specs.Chain.{linkAt}
 use Rattle.dpcs.specs.Record.{dpcCount}
-use Rattle.dpcs.specs.Table.{numberedIn, numbered, newNumber, linksRenewedIn, linksRenewed, relinked, settled, closedUp}
+use Rattle.dpc_table.specs.Table.{numberedIn, numbered, newNumber, linksRenewedIn, linksRenewed, relinked, settled, closedUp}
 use Rattle.model.specs.Lists.{nth, keep, Mem, Distinct}
 use Rattle.model.specs.Table.{Rising}
 use Rattle.history_tables.specs.Tables.{Same, Copied, NoNumber, Local, Holds, keptBefore, newNumberOf, queueOf, Queued, Stays}

@@ -14,8 +14,8 @@ use Rattle.tables.specs.Table.{position, gapOpened}
 use Rattle.tables.proofs.TableLaws.{entry-is}
 use Rattle.chains.specs.Chain.{linkAt}
 use Rattle.objects.specs.Objects.{dpcsBase, dpcFound, foundAt}
-use Rattle.dpcs.specs.declared.table.NewDpc.{NewDpc}
-use Rattle.dpcs.specs.Table.{putIdle, putImage, putDpc, raisedNumber, linksRaised, inserted, entered}
+use Rattle.dpc_table.specs.declared.NewDpc.{NewDpc}
+use Rattle.dpc_table.specs.Table.{putIdle, putImage, putDpc, raisedNumber, linksRaised, inserted, entered}
 use Rattle.model.specs.Table.{find, put, Rising}
 use Rattle.model.proofs.TableLaws.{length-put-known}
 use Rattle.history_tables.specs.Tables.{Same, Whole, NoLink, Local, Holds, Keyed, below, Grown, Others, DpcAt, queueOf}

@@ -11,7 +11,7 @@ use Rattle.objects.specs.Objects.{dpcsBase}
 use Rattle.chains.specs.declared.Chain.{Chain}
 use Rattle.chains.specs.Chain.{linkAt}
 use Rattle.dpcs.specs.Record.{queueChain}
-use Rattle.dpcs.specs.Table.{raisedNumber, numberRaised, linksRaisedIn, linksRaised}
+use Rattle.dpc_table.specs.Table.{raisedNumber, numberRaised, linksRaisedIn, linksRaised}
 use Rattle.history_tables.specs.Tables.{Same, queueOf}
 use Rattle.history_tables.proofs.Moves.{read-other, read-same, set-outside}
 

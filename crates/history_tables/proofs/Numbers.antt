@@ -9,7 +9,7 @@ use native.Mathlib.Decide.{ℕ-discrete, decLt}
 use borrow.Author.Tests.{le-leb, lt-leb}
 use lib.Dec.{leb}
 use lib.ListN.{length}
-use Rattle.dpcs.specs.Table.{raisedNumber}
+use Rattle.dpc_table.specs.Table.{raisedNumber}
 use Rattle.model.specs.Lists.{nth, keep}
 use Rattle.model.specs.Table.{find, put, Rising}
 use Rattle.model.proofs.ListLaws.{keep-yes}

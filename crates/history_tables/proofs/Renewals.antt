@@ -14,7 +14,7 @@ use Rattle.tables.proofs.TableLaws.{entry-is}
 use Rattle.objects.specs.Objects.{objectsBase, dpcsBase}
 use Rattle.chains.specs.Chain.{linkAt, nextOf}
 use Rattle.dpcs.specs.Record.{placeAt}
-use Rattle.dpcs.specs.Table.{numberPut, numberTo, numberedIn, newNumber, linkRenewed, linksRenewedIn}
+use Rattle.dpc_table.specs.Table.{numberPut, numberTo, numberedIn, newNumber, linkRenewed, linksRenewedIn}
 use Rattle.model.specs.Lists.{nth, Mem, Distinct}
 use Rattle.model.proofs.ListLaws.{not-both}
 use Rattle.model.proofs.TableLaws.{some-same, none-some}

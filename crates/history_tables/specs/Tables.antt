@@ -9,7 +9,7 @@ use lib.ListN.{getD}
 use Rattle.chains.specs.declared.Chain.{Chain}
 use Rattle.chains.specs.Chain.{linkAt}
 use Rattle.objects.specs.declared.Object.{Object}
-use Rattle.dpcs.specs.declared.table.NewDpc.{NewDpc}
+use Rattle.dpc_table.specs.declared.NewDpc.{NewDpc}
 use Rattle.model.specs.Lists.{nth}
 
 -- words that hold the same at every place of a region

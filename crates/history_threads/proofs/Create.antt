@@ -10,7 +10,7 @@ use lib.ListN.{getD, set, length}
 use lib.Dec.{eqb, leb, ltb}
 use Rattle.answers.specs.Outcome.{outcome, unless}
 use Rattle.answers.specs.declared.Answer.the-variants as answer
-use Rattle.kernel.specs.Open.{badPriority}
+use Rattle.opening.specs.Open.{badPriority}
 use Rattle.kernel.specs.Thread as words
 use Rattle.threads.specs.Thread.{putThread, putWait, noWait}
 use Rattle.chains.specs.Ready.{placedLast}

@@ -12,7 +12,7 @@ use lib.Dec.{eqb}
 use Rattle.words.specs.Layout.{entryAt}
 use Rattle.chains.specs.Ready.{waitersChain}
 use Rattle.objects.specs.Objects.{objectCount}
-use Rattle.waits.specs.Wake as code
+use Rattle.wakes.specs.Wake as code
 use Rattle.dispatcher.specs.declared.dispatch.Due.{Due}
 use Rattle.dispatcher.specs.Dispatch.{sooner, soonest}
 use Rattle.dispatcher.specs.TimerDue.{isAwaited, timerCounts, dueWith, soonestTimerIn, soonestTimer, nextTime}

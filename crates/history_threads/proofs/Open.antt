@@ -9,7 +9,7 @@ use Rattle.answers.specs.Outcome as code
 use Rattle.answers.specs.Outcome.{outcome}
 use Rattle.answers.specs.declared.Answer.the-variants as answer
 use Rattle.call_answers.specs.Told.{told}
-use Rattle.kernel.specs.Open as words
+use Rattle.opening.specs.Open as words
 use Rattle.model.specs.State.{State}
 use Rattle.model.specs.Answer.{Done}
 use Rattle.model.specs.Refusal.{openRefusal, notPriority, badLimits}

@@ -14,7 +14,7 @@ use Rattle.threads.specs.declared.Thread as stored
 use Rattle.threads.specs.Thread.{putThread}
 use Rattle.chains.specs.Ready.{placedLast, unplaced}
 use Rattle.waits.specs.Object as words-object
-use Rattle.kernel.specs.Open.{badPriority}
+use Rattle.opening.specs.Open.{badPriority}
 use Rattle.kernel.specs.Thread as words
 use Rattle.model.specs.Lists.{Mem, without}
 use Rattle.model.specs.State.{State, Dispatcher, Thread, ready, exited}

@@ -11,11 +11,11 @@ use borrow.Author.Tests.{eq-eqb}
 use Rattle.images.specs.declared.Timer.{Timer}
 use Rattle.objects.specs.Objects.{placeOf}
 use Rattle.dpcs.specs.Record.{numberOf}
-use Rattle.dpc.specs.Queue as queue
+use Rattle.dpc_queue.specs.Queue as queue
 use Rattle.answers.specs.declared.Answer.the-variants as answer
 use Rattle.answers.specs.Outcome as code
 use Rattle.timers.specs.Record.{isInserted}
-use Rattle.timers.specs.Arm as words
+use Rattle.arming.specs.Arm as words
 use Rattle.model.specs.Lists.{present, given}
 use Rattle.model.specs.State.{State, timer}
 use Rattle.model.specs.Waits.{timerAt, putObject}

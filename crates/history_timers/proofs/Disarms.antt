@@ -12,8 +12,8 @@ use Rattle.images.specs.declared.Dpc.{Dpc}
 use Rattle.images.specs.declared.DpcPhase.{DpcPhase}
 use Rattle.images.specs.declared.DpcPhase.the-variants.{Idle, Queued, Running, Returning}
 use Rattle.dpcs.specs.Record.{numberOf}
-use Rattle.dpc.specs.Queue as queue
-use Rattle.timers.specs.Arm as words
+use Rattle.dpc_queue.specs.Queue as queue
+use Rattle.arming.specs.Arm as words
 use Rattle.model.specs.State.{State, Dpcs, timer}
 use Rattle.model.specs.Waits.{keyOf, objectAt, putObject}
 use Rattle.model.specs.Dpcs.{dpcAt, phaseAt, isIdle, isQueued, isActive, withdrawn}

@@ -11,7 +11,7 @@ use Rattle.images.specs.declared.Timer.{Timer}
 use Rattle.images.specs.declared.Dpc.{Dpc}
 use Rattle.objects.specs.Objects.{dpcFound}
 use Rattle.timers.specs.Record.{isInserted}
-use Rattle.timers.specs.Arm as words
+use Rattle.arming.specs.Arm as words
 use Rattle.model.specs.Lists.{present}
 use Rattle.model.specs.State.{State, timer}
 use Rattle.model.specs.Waits.{keyOf, objectAt}

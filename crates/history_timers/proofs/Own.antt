@@ -14,7 +14,7 @@ use Rattle.images.specs.declared.DpcOrigin.the-variants as origin
 use Rattle.images.specs.declared.DpcPhase.{DpcPhase}
 use Rattle.images.specs.declared.DpcPhase.the-variants.{Idle, Queued, Running, Returning}
 use Rattle.objects.specs.Objects.{placeOf, dpcFound}
-use Rattle.timers.specs.Arm as words
+use Rattle.arming.specs.Arm as words
 use Rattle.model.specs.Lists.{present, given}
 use Rattle.model.specs.State.{State, Policy, unselected, cpu0Dispatch, timer}
 use Rattle.model.specs.Waits.{objectAt}

@@ -13,8 +13,8 @@ use Rattle.images.specs.declared.Timer.{Timer}
 use Rattle.images.specs.declared.Dpc.{Dpc}
 use Rattle.objects.specs.Objects.{placeOf, dpcFound}
 use Rattle.timers.specs.Record.{busy}
-use Rattle.timers.specs.Signed.{negative}
-use Rattle.timers.specs.Arm as words
+use Rattle.arming.specs.Signed.{negative}
+use Rattle.arming.specs.Arm as words
 use Rattle.model.specs.Lists.{present, given}
 use Rattle.model.specs.State.{State, timer}
 use Rattle.model.specs.Waits.{timerAt}

@@ -13,8 +13,8 @@ use Rattle.objects.specs.Objects.{placeOf}
 use Rattle.answers.specs.declared.Answer.the-variants as answer
 use Rattle.answers.specs.Outcome as code
 use Rattle.timers.specs.Record.{isInserted}
-use Rattle.timers.specs.Signed.{whole}
-use Rattle.timers.specs.Arm as words
+use Rattle.arming.specs.Signed.{whole}
+use Rattle.arming.specs.Arm as words
 use Rattle.model.specs.Lists.{present, given}
 use Rattle.model.specs.State.{State, timer}
 use Rattle.model.specs.Waits.{timerAt, putObject}

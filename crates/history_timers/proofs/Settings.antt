@@ -8,8 +8,8 @@ use native.Mathlib.Omega.{arith}
 use lib.Dec.{eqb}
 use borrow.Author.Tests.{eqb-true, eqb-false}
 use Rattle.images.specs.declared.Timer.{Timer}
-use Rattle.timers.specs.declared.arm.Setting.{Setting}
-use Rattle.timers.specs.Arm as words
+use Rattle.arming.specs.declared.Setting.{Setting}
+use Rattle.arming.specs.Arm as words
 use Rattle.model.specs.State.{State, timer}
 use Rattle.model.specs.Waits.{keyOf, objectAt, putObject}
 use Rattle.model.specs.Timers.{most, armed, isNamedByOther}

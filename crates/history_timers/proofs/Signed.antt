@@ -9,7 +9,7 @@ use lib.IntN.{ℤ, pos, negsuc}
 use borrow.Author.Tests.{ltb-false}
 use Rattle.answers.specs.declared.Answer.the-variants as answer
 use Rattle.answers.specs.Outcome as code
-use Rattle.timers.specs.Arm as words
+use Rattle.arming.specs.Arm as words
 use Rattle.model.specs.State.{State}
 use Rattle.model.specs.Timers.{most}
 use Rattle.model.specs.Answer.{Outcome, gives, Refused}

@@ -10,7 +10,7 @@ use lib.Dec.{leb, ltb}
 use Rattle.answers.specs.Outcome.{outcome, unless}
 use Rattle.answers.specs.declared.Answer.the-variants as answer
 use Rattle.threads.specs.declared.Wait as stored-wait
-use Rattle.dispatcher.specs.Wait as words
+use Rattle.waiting.specs.Wait as words
 use Rattle.model.specs.Lists.{Mem}
 use Rattle.model.specs.State.{State, timeout, Named}
 use Rattle.model.specs.Threads.{isReady, isWaiting, becomes, blocked}

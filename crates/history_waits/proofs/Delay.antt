@@ -10,7 +10,7 @@ use lib.ListN.{getD}
 use lib.Dec.{eqb, leb, ltb}
 use Rattle.answers.specs.Outcome.{outcome}
 use Rattle.answers.specs.declared.Answer.the-variants as answer
-use Rattle.dispatcher.specs.Wait as words
+use Rattle.waiting.specs.Wait as words
 use Rattle.model.specs.State.{State}
 use Rattle.model.specs.Waits.{reached}
 use Rattle.model.specs.Valid.{Valid}

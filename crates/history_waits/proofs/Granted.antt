@@ -10,7 +10,7 @@ use Rattle.answers.specs.Outcome.{outcome, bit}
 use Rattle.answers.specs.declared.Answer.the-variants as answer
 use Rattle.words.specs.Layout as at
 use Rattle.waits.specs.Lists.{takesList}
-use Rattle.dispatcher.specs.Wait as words
+use Rattle.waiting.specs.Wait as words
 use Rattle.model.specs.State.{State, Dispatcher, satisfied, Named}
 use Rattle.model.specs.Threads.{withObjects}
 use Rattle.model.specs.Waits.{isAvailable, firstAvailable, isMet, index, takes}

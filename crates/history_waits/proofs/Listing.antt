@@ -9,7 +9,7 @@ use borrow.Author.Tests.{eq-eqb, ne-eqb, ltb-true, ltb-false, lt-ltb, le-ltb, le
 use lib.ListN.{length}
 use lib.Dec.{eqb, leb, ltb}
 use Rattle.waits.specs.Lists.{badKindIn, duplicateIn}
-use Rattle.dispatcher.specs.Wait.{pairCount, listRefusal}
+use Rattle.waiting.specs.Wait.{pairCount, listRefusal}
 use Rattle.model.specs.Lists.{any, isEmpty}
 use Rattle.model.specs.State.{Named}
 use Rattle.model.specs.Refusal.{pairs, hasDuplicate, badList}

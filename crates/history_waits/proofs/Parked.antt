@@ -12,7 +12,7 @@ use Rattle.threads.specs.declared.Wait as stored-wait
 use Rattle.threads.specs.Thread.{putThread, putWait}
 use Rattle.chains.specs.Chain.{pushed}
 use Rattle.chains.specs.Ready.{waitersChain}
-use Rattle.dispatcher.specs.Wait.{left, parked, blockedWords}
+use Rattle.waiting.specs.Wait.{left, parked, blockedWords}
 use Rattle.model.specs.Lists.{Mem, without}
 use Rattle.model.specs.State.{State, Dispatcher, Thread, running, waiting, Wait, Named}
 use Rattle.model.specs.Threads.{becomes, blocked, changeAt, statusOf, priorityOf, isWaiting, withThread, withSequence}

@@ -12,8 +12,8 @@ use Rattle.answers.specs.Outcome as code
 use Rattle.answers.specs.Outcome.{unless, bit}
 use Rattle.threads.specs.Thread.{recorded}
 use Rattle.waits.specs.Lists.{unknownIn, ownedIn, metIn}
-use Rattle.dispatcher.specs.Wait as words
-use Rattle.dispatcher.specs.Wait.{pairCount, listRefusal}
+use Rattle.waiting.specs.Wait as words
+use Rattle.waiting.specs.Wait.{pairCount, listRefusal}
 use Rattle.model.specs.Lists.{any}
 use Rattle.model.specs.State.{State, Named}
 use Rattle.model.specs.Waits.{exists, isMet, reached}

@@ -3,7 +3,7 @@ use Prim.Native.Nat.{ℕ}
 use mathlib.Core.List.{List}
 use mathlib.Core.Option.{some}
 use mathlib.Core.Path.{_≡_, _∙_}
-use Rattle.waits.specs.Wake.{awake}
+use Rattle.wakes.specs.Wake.{awake}
 use Rattle.model.specs.Table.{Rising}
 use Rattle.model.specs.State.{State, Dispatcher, Object}
 use Rattle.model.specs.Waits.{keyOf, objectAt, putObject, wake}

@@ -8,11 +8,11 @@ use native.Mathlib.Omega.{arith}
 use lib.ListN.{getD, set}
 use lib.Dec.{eqb}
 use Rattle.objects.specs.Objects.{placeOf}
-use Rattle.waits.specs.Wake.{awake}
+use Rattle.wakes.specs.Wake.{awake}
 use Rattle.answers.specs.Outcome as code
 use Rattle.answers.specs.Outcome.{outcome}
 use Rattle.answers.specs.declared.Answer.the-variants as answer
-use Rattle.sync.specs.Events.{signaledAt, wasSet, wasReset}
+use Rattle.events.specs.Events.{signaledAt, wasSet, wasReset}
 use Rattle.model.specs.Lists.{given, present}
 use Rattle.model.specs.State.{State, Event, Object, mutex, event, timer}
 use Rattle.model.specs.Threads.{withObjects}

@@ -8,7 +8,7 @@ use native.Mathlib.Omega.{arith}
 use lib.ListN.{getD, set}
 use lib.Dec.{eqb}
 use Rattle.objects.specs.Objects.{placeOf}
-use Rattle.waits.specs.Wake.{awake}
+use Rattle.wakes.specs.Wake.{awake}
 use Rattle.answers.specs.Outcome.{outcome}
 use Rattle.answers.specs.declared.Answer.the-variants as answer
 use Rattle.sync.specs.Mutexes as words

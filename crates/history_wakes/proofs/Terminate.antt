@@ -11,7 +11,7 @@ use lib.Dec.{eqb}
 use Rattle.objects.specs.Objects.{objectsBase}
 use Rattle.threads.specs.declared.Thread as stored
 use Rattle.threads.specs.Thread.{putThread}
-use Rattle.waits.specs.Wake.{awake}
+use Rattle.wakes.specs.Wake.{awake}
 use Rattle.answers.specs.Outcome.{outcome}
 use Rattle.answers.specs.declared.Answer.the-variants as answer
 use Rattle.kernel.specs.Thread as words

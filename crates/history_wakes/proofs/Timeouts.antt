@@ -10,8 +10,8 @@ use lib.ListN.{getD, length}
 use Rattle.words.specs.Layout as at
 use Rattle.chains.specs.Chain.{removed}
 use Rattle.chains.specs.Ready.{waitersChain}
-use Rattle.waits.specs.Wake.{madeReady}
-use Rattle.dispatcher.specs.Advance.{overdue, expired, expiredIn, expiredAll}
+use Rattle.wakes.specs.Wake.{madeReady}
+use Rattle.advancing.specs.Advance.{overdue, expired, expiredIn, expiredAll}
 use Rattle.model.specs.Lists.{Mem}
 use Rattle.model.specs.State.{State, Dispatcher, Thread, Status, running, ready, waiting, exited, Wait, timeout}
 use Rattle.model.specs.Threads.{noOne, threadAt, threadOf, statusOf, isWaiting, waitOf, becomes, woken, numbersOf}

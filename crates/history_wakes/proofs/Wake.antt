@@ -12,7 +12,7 @@ use Rattle.chains.specs.Chain.{nextOf, unlinked}
 use Rattle.chains.specs.Ready.{waitersChain}
 use Rattle.threads.specs.Thread.{allOf, placesAt}
 use Rattle.waits.specs.Lists.{metIn, indexIn, takesOwn}
-use Rattle.waits.specs.Wake.{madeReady, awoken, grantable, visited, visitedTo, passed, awake}
+use Rattle.wakes.specs.Wake.{madeReady, awoken, grantable, visited, visitedTo, passed, awake}
 use Rattle.model.specs.Lists.{Mem, Distinct, isEmpty, first, without}
 use Rattle.model.specs.State.{State, Dispatcher, Status, waiting, Wait, WaitResult, satisfied, Named}
 use Rattle.model.specs.Threads.{statusOf, waitOf, withObjects, woken}

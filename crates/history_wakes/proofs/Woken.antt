@@ -8,7 +8,7 @@ use mathlib.Core.Path.{_≡_, refl, sym, ap, _∙_, subst}
 use borrow.Author.Tests.{ne-eqb, eqb-false}
 use lib.Dec.{eqb}
 use lib.ListN.{length}
-use Rattle.waits.specs.Wake.{madeReady}
+use Rattle.wakes.specs.Wake.{madeReady}
 use Rattle.model.specs.Lists.{Mem, without}
 use Rattle.model.specs.State.{State, Dispatcher, Thread, Status, running, ready, waiting, exited, Wait, WaitResult}
 use Rattle.model.specs.Threads.{statusOf, isReady, isWaiting, isRunning, changeAt, withThread, becomes, woken}

@@ -11,7 +11,7 @@ use Rattle.images.specs.declared.Dpc.{Dpc}
 use Rattle.images.specs.declared.DpcPhase.{DpcPhase}
 use Rattle.images.specs.declared.DpcPhase.the-variants.{Idle, Queued, Running, Returning}
 use Rattle.objects.specs.Objects.{dpcFound}
-use Rattle.dpc.specs.Queue.{raised}
+use Rattle.dpc_queue.specs.Queue.{raised}
 use Rattle.dpcs.specs.Record.{placeAt, numberOf}
 use Rattle.model.specs.State.{State, Dpcs}
 use Rattle.model.specs.Dpcs.{addressOf, dpcAt, isActive, isReturning}

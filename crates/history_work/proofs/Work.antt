@@ -15,7 +15,7 @@ use Rattle.chains.specs.declared.Chain.{Chain}
 use Rattle.chains.specs.Chain.{pushed, removed}
 use Rattle.objects.specs.Objects.{dpcFound}
 use Rattle.dpcs.specs.Record.{placeAt, numberOf, queueChain}
-use Rattle.dpc.specs.Queue as words
+use Rattle.dpc_queue.specs.Queue as words
 use Rattle.model.specs.Lists.{Mem, without, present, given}
 use Rattle.model.specs.State.{State, Dpcs}
 use Rattle.model.specs.Dpcs.{addressOf, dpcAt, inPhase, putDpc, rephased, phaseAt, isQueued, newWork, accepted, duplicated, withdrawn}

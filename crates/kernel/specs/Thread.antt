@@ -11,11 +11,11 @@ use Rattle.threads.specs.declared.Thread.{Thread}
 use Rattle.threads.specs.Thread.{threadOf, putThread, putWait, noWait, known}
 use Rattle.objects.specs.Objects.{objectsBase, objectCount}
 use Rattle.waits.specs.Object.{exited}
-use Rattle.waits.specs.Wake.{madeReady, awake}
+use Rattle.wakes.specs.Wake.{madeReady, awake}
 use Rattle.answers.specs.declared.Answer.{Answer}
 use Rattle.answers.specs.declared.Answer.the-variants as answer
 use Rattle.answers.specs.Outcome.{Outcome, outcome, unless}
-use Rattle.kernel.specs.Open.{badPriority}
+use Rattle.opening.specs.Open.{badPriority}
 
 unfoldable pub currentAnswer : List ℕ → Answer
 currentAnswer w = cond (eqb (getD w at.current 0) 0) answer.None (answer.Thread (getD w at.current 0))

@@ -1,3 +1,2 @@
-// Opening a scheduler, and the calls on threads. They are total: words out of form get an answer too, if no useful one.
-pub mod open;
+// The calls on threads. They are total: words out of form get an answer too, if no useful one.
 pub mod thread;

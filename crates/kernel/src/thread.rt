@@ -2,11 +2,9 @@
 ghost use mathlib.Core.Path.{_≡_};
 ghost use Rattle.answers.specs.Outcome.{outcome};
 ghost use Rattle.kernel.specs.Thread.{currentAnswer, createRefusal, createdThread, created, priorityRefusal, withPriority, moved, prioritized, yieldedWords, yielded, ownerAt, ownsMutex, terminateRefusal, exitedWords, terminated};
-use super::open;
 use answers::Answer;
 use chains::ready;
 use waits::object;
-use waits::wake;
 use words::layout;
 
 pub fn current(w: &[u64]) -> Answer
@@ -22,7 +20,7 @@ pub fn current(w: &[u64]) -> Answer
 fn create_refusal(w: &[u64], priority: u64) -> u64
     ensures { λ r. ⌜ r ≡ createRefusal (now (w .entry)) priority ⌝ }
 {
-    if open::is_bad_priority(priority) {
+    if opening::is_bad_priority(priority) {
         return 1;
     }
     let limit = words::get(w, layout::THREAD_LIMIT);
@@ -67,7 +65,7 @@ pub fn create_thread(w: &mut [u64], priority: u64) -> Answer
 fn priority_refusal(w: &[u64], id: u64, priority: u64) -> u64
     ensures { λ r. ⌜ r ≡ priorityRefusal (now (w .entry)) id priority ⌝ }
 {
-    if open::is_bad_priority(priority) {
+    if opening::is_bad_priority(priority) {
         return 1;
     }
     if !threads::is_known(w, id) {
@@ -125,7 +123,7 @@ fn leave(w: &mut [u64], id: u64)
 {
     let t = threads::read_thread(w, id);
     words::put(w, layout::CURRENT, 0);
-    wake::make_ready(w, id, t.result);
+    wakes::make_ready(w, id, t.result);
 }
 
 pub fn yield_current(w: &mut [u64]) -> Answer
@@ -208,6 +206,6 @@ pub fn terminate(w: &mut [u64], status: u32) -> Answer
     }
     let id = words::get(w, layout::CURRENT);
     exit(w, id, status as u64);
-    wake::wake(w);
+    wakes::wake(w);
     Answer::Done
 }

@@ -29,7 +29,7 @@ use Rattle.dispatcher.specs.Dispatched.{dispatched}
 use Rattle.script.specs.declared.command.Command.{Command}
 use Rattle.script.specs.declared.command.Command.the-variants as command
 use Rattle.script.specs.Print.{bareAnswer}
-use Rattle.kernel.specs.Open as words
+use Rattle.opening.specs.Open as words
 use Rattle.form.specs.Form.{inForm}
 use Rattle.model.specs.State.{State}
 use Rattle.model.specs.Lists.{Mem}

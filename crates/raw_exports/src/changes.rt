@@ -2,10 +2,10 @@
 ghost use mathlib.Core.Path.{_≡_};
 ghost use Rattle.kernel.specs.Thread as thread;
 ghost use Rattle.sync.specs.Mutexes as mutexes;
-ghost use Rattle.sync.specs.Events as events;
+ghost use Rattle.events.specs.Events as events;
 ghost use Rattle.sync.specs.Release as release;
-ghost use Rattle.dispatcher.specs.Wait as wait;
-ghost use Rattle.dispatcher.specs.Advance.{advanced};
+ghost use Rattle.waiting.specs.Wait as wait;
+ghost use Rattle.advancing.specs.Advance.{advanced};
 ghost use Rattle.dispatcher.specs.Dispatched.{dispatched};
 ghost use Rattle.exports.specs.SchedulerAnswer.{truth, given, changedBy, givenAll};
 ghost use Rattle.raw_exports.specs.Dispatch.{dispatchedBy};
@@ -107,7 +107,7 @@ pub extern "C" fn raw_initialize_event(
     if out.len() < 4 {
         return 27;
     }
-    let answer = sync::events::initialize_event(words, key, manual != 0, signaled != 0);
+    let answer = events::initialize_event(words, key, manual != 0, signaled != 0);
     put_answer(out, answer)
 }
 
@@ -118,7 +118,7 @@ pub extern "C" fn raw_set_event(words: &mut [u64], key: u64, out: &mut [u64]) ->
     if out.len() < 4 {
         return 27;
     }
-    let answer = sync::events::set_event(words, key);
+    let answer = events::set_event(words, key);
     put_answer(out, answer)
 }
 
@@ -129,7 +129,7 @@ pub extern "C" fn raw_reset_event(words: &mut [u64], key: u64, out: &mut [u64]) 
     if out.len() < 4 {
         return 27;
     }
-    let answer = sync::events::reset_event(words, key);
+    let answer = events::reset_event(words, key);
     put_answer(out, answer)
 }
 
@@ -162,7 +162,7 @@ pub extern "C" fn raw_delay_until(
     if out.len() < 4 {
         return 27;
     }
-    let answer = dispatcher::wait::delay_until(words, deadline, irql);
+    let answer = waiting::delay_until(words, deadline, irql);
     put_answer(out, answer)
 }
 
@@ -173,7 +173,7 @@ pub extern "C" fn raw_advance_to(words: &mut [u64], time: u64, out: &mut [u64]) 
     if out.len() < 4 {
         return 27;
     }
-    let answer = dispatcher::advance::advance_to(words, time);
+    let answer = advancing::advance_to(words, time);
     put_answer(out, answer)
 }
 
@@ -192,7 +192,7 @@ pub extern "C" fn raw_wait(
     if out.len() < 4 {
         return 27;
     }
-    let answer = dispatcher::wait::wait(words, list, all != 0, timed != 0, deadline, irql);
+    let answer = waiting::wait(words, list, all != 0, timed != 0, deadline, irql);
     put_answer(out, answer)
 }
 

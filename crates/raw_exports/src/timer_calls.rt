@@ -2,7 +2,7 @@
 ghost use mathlib.Core.Path.{_≡_};
 ghost use Rattle.images.specs.Place.{architectureOf, backingOf};
 ghost use Rattle.timers.specs.Initialize as initialize;
-ghost use Rattle.timers.specs.Arm as arm;
+ghost use Rattle.arming.specs.Arm as arm;
 ghost use Rattle.timers.specs.Release as release;
 ghost use Rattle.exports.specs.SchedulerAnswer.{truth, given, changedBy};
 use exports::scheduler_answer::put_answer;
@@ -69,7 +69,7 @@ pub extern "C" fn raw_set_timer(
     if out.len() < 4 {
         return 27;
     }
-    let answer = timers::arm::set_timer(words, address, due, absolute != 0, period, dpc);
+    let answer = arming::set_timer(words, address, due, absolute != 0, period, dpc);
     put_answer(out, answer)
 }
 
@@ -80,7 +80,7 @@ pub extern "C" fn raw_cancel_timer(words: &mut [u64], address: u64, out: &mut [u
     if out.len() < 4 {
         return 27;
     }
-    let answer = timers::arm::cancel_timer(words, address);
+    let answer = arming::cancel_timer(words, address);
     put_answer(out, answer)
 }
 

@@ -11,7 +11,7 @@ use answers::Answer;
 pub fn open(w: &mut [u64], priority: u64, t: u64, o: u64, d: u64) -> Answer
     ensures { λ r. ⌜ outcome r (now (w .exit)) ≡ called (now (w .entry)) (call.Open (length (now (w .entry))) priority t o d) ⌝ }
 {
-    kernel::open::open(w, priority, t, o, d)
+    opening::open(w, priority, t, o, d)
 }
 
 pub fn create_thread(w: &mut [u64], priority: u64) -> Answer
@@ -86,7 +86,7 @@ pub fn initialize_event(w: &mut [u64], key: u64, manual: bool, signaled: bool) -
     if !form::in_form(w) {
         return Answer::Refused(27);
     }
-    sync::events::initialize_event(w, key, manual, signaled)
+    events::initialize_event(w, key, manual, signaled)
 }
 
 pub fn set_event(w: &mut [u64], key: u64) -> Answer
@@ -95,7 +95,7 @@ pub fn set_event(w: &mut [u64], key: u64) -> Answer
     if !form::in_form(w) {
         return Answer::Refused(27);
     }
-    sync::events::set_event(w, key)
+    events::set_event(w, key)
 }
 
 pub fn reset_event(w: &mut [u64], key: u64) -> Answer
@@ -104,7 +104,7 @@ pub fn reset_event(w: &mut [u64], key: u64) -> Answer
     if !form::in_form(w) {
         return Answer::Refused(27);
     }
-    sync::events::reset_event(w, key)
+    events::reset_event(w, key)
 }
 
 pub fn retire_event_backing(w: &mut [u64], base: u64, size: u64, layout: u64) -> Answer
@@ -122,7 +122,7 @@ pub fn delay_until(w: &mut [u64], deadline: u64, irql: u8) -> Answer
     if !form::in_form(w) {
         return Answer::Refused(27);
     }
-    dispatcher::wait::delay_until(w, deadline, irql)
+    waiting::delay_until(w, deadline, irql)
 }
 
 pub fn advance_to(w: &mut [u64], time: u64) -> Answer
@@ -131,7 +131,7 @@ pub fn advance_to(w: &mut [u64], time: u64) -> Answer
     if !form::in_form(w) {
         return Answer::Refused(27);
     }
-    dispatcher::advance::advance_to(w, time)
+    advancing::advance_to(w, time)
 }
 
 pub fn wait(w: &mut [u64], list: &[u64], all: bool, timed: bool, deadline: u64, irql: u8) -> Answer
@@ -141,9 +141,9 @@ pub fn wait(w: &mut [u64], list: &[u64], all: bool, timed: bool, deadline: u64, 
         return Answer::Refused(27);
     }
     if timed {
-        return dispatcher::wait::wait(w, list, all, true, deadline, irql);
+        return waiting::wait(w, list, all, true, deadline, irql);
     }
-    dispatcher::wait::wait(w, list, all, false, 0, irql)
+    waiting::wait(w, list, all, false, 0, irql)
 }
 
 pub fn dispatch(w: &mut [u64], out: &mut [u64]) -> Answer

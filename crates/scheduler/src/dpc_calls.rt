@@ -5,10 +5,10 @@ ghost use Rattle.calls.specs.Called.{called};
 ghost use Rattle.answers.specs.Outcome.{outcome};
 ghost use Rattle.dpc.specs.Work as calls;
 use answers::Answer;
-use dpc::reads::CountersAnswer;
-use dpc::reads::DpcAnswer;
-use dpc::reads::PolicyAnswer;
 use dpc::work::WorkAnswer;
+use dpc_reads::CountersAnswer;
+use dpc_reads::DpcAnswer;
+use dpc_reads::PolicyAnswer;
 
 pub fn configure_dpc_dispatch(w: &mut [u64], first: u64, second: u64) -> Answer
     ensures { λ r. ⌜ outcome r (now (w .exit)) ≡ called (now (w .entry)) (call.ConfigureDpcDispatch first second) ⌝ }
@@ -70,7 +70,7 @@ pub fn dpc_initializations(w: &[u64]) -> Answer
     if !form::in_form(w) {
         return Answer::Refused(27);
     }
-    dpc::reads::dpc_initializations(w)
+    dpc_reads::dpc_initializations(w)
 }
 
 // The address of the DPC at a position in the queue, from 0 on.
@@ -80,7 +80,7 @@ pub fn queued_dpcs(w: &[u64], position: u64) -> Answer
     if !form::in_form(w) {
         return Answer::Refused(27);
     }
-    dpc::reads::queued_dpcs(w, position)
+    dpc_reads::queued_dpcs(w, position)
 }
 
 pub fn dpc(w: &[u64], address: u64) -> DpcAnswer
@@ -89,7 +89,7 @@ pub fn dpc(w: &[u64], address: u64) -> DpcAnswer
     if !form::in_form(w) {
         return DpcAnswer::Refused(27);
     }
-    dpc::reads::dpc(w, address)
+    dpc_reads::dpc(w, address)
 }
 
 // The DPC at a position in the order of the addresses, from 0 on.
@@ -99,7 +99,7 @@ pub fn dpcs(w: &[u64], position: u64) -> DpcAnswer
     if !form::in_form(w) {
         return DpcAnswer::Refused(27);
     }
-    dpc::reads::dpcs_at(w, position)
+    dpc_reads::dpcs_at(w, position)
 }
 
 // The DPC whose work is running or returning.
@@ -109,7 +109,7 @@ pub fn active_dpc(w: &[u64]) -> DpcAnswer
     if !form::in_form(w) {
         return DpcAnswer::Refused(27);
     }
-    dpc::reads::active_dpc(w)
+    dpc_reads::active_dpc(w)
 }
 
 // The DPC whose work may start.
@@ -119,7 +119,7 @@ pub fn next_dpc(w: &[u64]) -> DpcAnswer
     if !form::in_form(w) {
         return DpcAnswer::Refused(27);
     }
-    dpc::reads::next_dpc(w)
+    dpc_reads::next_dpc(w)
 }
 
 pub fn dpc_policy(w: &[u64]) -> PolicyAnswer
@@ -128,7 +128,7 @@ pub fn dpc_policy(w: &[u64]) -> PolicyAnswer
     if !form::in_form(w) {
         return PolicyAnswer::Refused(27);
     }
-    dpc::reads::dpc_policy(w)
+    dpc_reads::dpc_policy(w)
 }
 
 pub fn dpc_counters(w: &[u64]) -> CountersAnswer
@@ -137,5 +137,5 @@ pub fn dpc_counters(w: &[u64]) -> CountersAnswer
     if !form::in_form(w) {
         return CountersAnswer::Refused(27);
     }
-    dpc::reads::dpc_counters(w)
+    dpc_reads::dpc_counters(w)
 }

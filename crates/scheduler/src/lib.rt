@@ -2,7 +2,6 @@
 // refused with 27, and left as they are.
 pub mod changes;
 pub mod dpc_calls;
-pub mod image_calls;
 pub mod reads;
 pub mod thread_reads;
 pub mod timer_calls;

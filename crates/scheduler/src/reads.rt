@@ -37,7 +37,7 @@ pub fn event_state(w: &[u64], key: u64) -> Answer
     if !form::in_form(w) {
         return Answer::Refused(27);
     }
-    sync::events::event_state(w, key)
+    events::event_state(w, key)
 }
 
 pub fn event_states(w: &[u64], position: u64) -> Answer

@@ -53,7 +53,7 @@ pub fn set_timer(
     if !form::in_form(w) {
         return Answer::Refused(27);
     }
-    timers::arm::set_timer(w, address, due, absolute, period, dpc)
+    arming::set_timer(w, address, due, absolute, period, dpc)
 }
 
 // A due of -d is d ticks from now; a due that is not negative is a time.
@@ -63,7 +63,7 @@ pub fn set_timer_signed(w: &mut [u64], address: u64, due: i64, period: i32, dpc:
     if !form::in_form(w) {
         return Answer::Refused(27);
     }
-    timers::arm::set_timer_signed(w, address, due, period, dpc)
+    arming::set_timer_signed(w, address, due, period, dpc)
 }
 
 pub fn cancel_timer(w: &mut [u64], address: u64) -> Answer
@@ -72,7 +72,7 @@ pub fn cancel_timer(w: &mut [u64], address: u64) -> Answer
     if !form::in_form(w) {
         return Answer::Refused(27);
     }
-    timers::arm::cancel_timer(w, address)
+    arming::cancel_timer(w, address)
 }
 
 pub fn retire_timer_backing(w: &mut [u64], address: u64, size: u64) -> Answer

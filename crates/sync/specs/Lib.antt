@@ -1,3 +1,2 @@
 pub mod Mutexes
-pub mod Events
 pub mod Release

@@ -12,7 +12,7 @@ use Rattle.objects.specs.declared.Object.{Object}
 use Rattle.objects.specs.Objects.{placeOf, collides, full, entered}
 use Rattle.waits.specs.Object.{exited}
 use Rattle.waits.specs.Lists.{hasPair}
-use Rattle.waits.specs.Wake.{awake, waitsOn}
+use Rattle.wakes.specs.Wake.{awake, waitsOn}
 use Rattle.answers.specs.declared.Answer.{Answer}
 use Rattle.answers.specs.declared.Answer.the-variants as answer
 use Rattle.answers.specs.Outcome.{Outcome, outcome, unless, bit}

@@ -7,11 +7,11 @@ use lib.Dec.{eqb, leb, ltb}
 use Rattle.words.specs.Layout as at
 use Rattle.words.specs.Layout.{entryAt}
 use Rattle.objects.specs.Objects.{objectsBase, objectCount}
-use Rattle.waits.specs.Wake.{waitsOn}
+use Rattle.wakes.specs.Wake.{waitsOn}
 use Rattle.answers.specs.declared.Answer.{Answer}
 use Rattle.answers.specs.declared.Answer.the-variants as answer
 use Rattle.answers.specs.Outcome.{Outcome, outcome, unless}
-use Rattle.sync.specs.Events.{stateAt}
+use Rattle.events.specs.Events.{stateAt}
 
 -- the record at a place is an event's
 unfoldable pub isEvent : List ℕ → ℕ → Bool

@@ -6,7 +6,6 @@ use answers::Answer;
 use chains::ready;
 use waits::lists;
 use waits::object;
-use waits::wake;
 use words::layout;
 
 fn new_mutex(owner: u64) -> objects::Object
@@ -46,7 +45,7 @@ fn mutex_refusal(w: &[u64], key: u64) -> u64
     if owner_of(w, key) != 0 {
         return 6;
     }
-    if wake::waits_on(w, objects::MUTEX, key) {
+    if wakes::waits_on(w, objects::MUTEX, key) {
         return 6;
     }
     0
@@ -200,6 +199,6 @@ pub fn release_mutex(w: &mut [u64], key: u64) -> Answer
         return Answer::Refused(refusal);
     }
     free(w, key);
-    wake::wake(w);
+    wakes::wake(w);
     Answer::Done
 }

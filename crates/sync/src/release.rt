@@ -3,9 +3,7 @@ ghost use mathlib.Core.Path.{_≡_};
 ghost use Prim.Native.Nat.{_≤_};
 ghost use Rattle.answers.specs.Outcome.{outcome};
 ghost use Rattle.sync.specs.Release.{isEvent, isNth, passedTo, nthEvent, eventStates, keyHeld, isHeld, anyHeld, releaseRefusal, releaseAnswer, isRetired, copied, moved, kept, keptTo, retired, eventsRetired};
-use super::events;
 use answers::Answer;
-use waits::wake;
 use words::layout;
 
 // Whether the record at place `at` is an event's.
@@ -85,7 +83,7 @@ fn is_key_held(w: &[u64], key: u64, lo: u64, hi: u64, span: u64) -> bool
     if hi < end {
         return true;
     }
-    wake::waits_on(w, objects::EVENT, key)
+    wakes::waits_on(w, objects::EVENT, key)
 }
 
 fn is_held(w: &[u64], at: usize, lo: u64, hi: u64, span: u64) -> bool

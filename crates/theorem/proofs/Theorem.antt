@@ -11,7 +11,7 @@ use Rattle.model.specs.Step as log
 use Rattle.model.specs.Valid.{Valid}
 use Rattle.model.proofs.StepLaws.{valid-opened, valid-after}
 use Rattle.model.proofs.FitsLaws.{numbers-opened}
-use Rattle.kernel.specs.Open as words
+use Rattle.opening.specs.Open as words
 use Rattle.calls.specs.Called.{called}
 use Rattle.calls.specs.Run.{answered, left}
 use Rattle.history.specs.Agree.{Agree}

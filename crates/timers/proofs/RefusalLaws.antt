@@ -1,23 +1,20 @@
 -- What a call that is not refused may count on.
-use Prim.Native.Nat.{ℕ, _+_, _<_}
+use Prim.Native.Nat.{ℕ, _<_}
 use native.Mathlib.Omega.{arith}
 use mathlib.Core.List.{List}
 use mathlib.Core.Bool.{Bool, cond, true, false}
 use mathlib.Core.Path.{_≡_, refl}
 use lib.ListN.{getD}
 use lib.Dec.{eqb, leb}
-use lib.IntN.{ℤ}
-use borrow.Author.Tests.{leb-false, eqb-false}
+use borrow.Author.Tests.{leb-false}
 use Rattle.words.specs.Layout as at
 use Rattle.arch.specs.declared.Architecture.{Architecture}
-use Rattle.objects.specs.Objects.{objectFound, placeOf, collides, full}
+use Rattle.objects.specs.Objects.{objectFound, collides, full}
 use Rattle.images.specs.declared.TimerBacking.{TimerBacking}
 use Rattle.images.specs.Place.{timerSize, dpcSize}
 use Rattle.dpcs.specs.Named.{isNamed}
-use Rattle.timers.specs.Signed.{negative}
 use Rattle.timers.specs.Record.{busy}
 use Rattle.timers.specs.Initialize.{placeRefusal, inUse, timerRefusal, dpcFull, dpcRefusal}
-use Rattle.timers.specs.Arm.{largest, newRefusal, formerBusy, setRefusal}
 
 -- there is an initialization left
 pub timer-lifetime : (w : List ℕ) (address : ℕ) (a : Architecture) (b : TimerBacking) → timerRefusal w address a b ≡ 0 → getD w at.timerInitializations 0 < 65536
@@ -43,18 +40,3 @@ dpc-lifetime w address a b = go (eqb (objectFound w address) 0) (dpcFull w addre
     go true true z f e = absurd (omega (arith, e))
     go true false true f e = absurd (omega (arith, e))
     go true false false f e = leb-false _ _ f
-
--- the timer's arm count is not at its end
-pub arm-left : (w : List ℕ) (address : ℕ) (period : ℤ) (dpc : ℕ) → setRefusal w address period dpc ≡ 0 → getD w (placeOf w 2 address + 10) 0 ≡ largest → ⊥
-unfolding setRefusal
-arm-left w address period dpc = go (negative period) (eqb (newRefusal w address dpc) 0) refl (formerBusy w (placeOf w 2 address)) (eqb (placeOf w 2 address) 0) (eqb (getD w (placeOf w 2 address + 10) 0) largest) refl
-  where
-    go : (x y : Bool) → eqb (newRefusal w address dpc) 0 ≡ y → (u v z : Bool) → eqb (getD w (placeOf w 2 address + 10) 0) largest ≡ z
-        → _≡_ {A = ℕ} (cond x 17 (cond y (cond u 19 (cond v 2 (cond z 24 0))) (newRefusal w address dpc))) 0
-        → getD w (placeOf w 2 address + 10) 0 ≡ largest → ⊥
-    go true y g u v z f e = absurd (omega (arith, e))
-    go false false g u v z f e = absurd (eqb-false _ _ g e)
-    go false true g true v z f e = absurd (omega (arith, e))
-    go false true g false true z f e = absurd (omega (arith, e))
-    go false true g false false true f e = absurd (omega (arith, e))
-    go false true g false false false f e = eqb-false _ _ f

@@ -10,10 +10,10 @@ use Rattle.objects.specs.declared.Object.{Object}
 use Rattle.objects.specs.Objects.{objectsBase, objectCount, dpcsBase, objectFound, dpcFound, placeOf, collides, full, entered}
 use Rattle.images.specs.declared.TimerBacking.{TimerBacking}
 use Rattle.images.specs.Place.{architectureNumber, backingKind, backingBase, backingSize, backingMapped, timerSize, dpcSize, overlaps, locationRefusal}
-use Rattle.waits.specs.Wake.{waitsOn}
-use Rattle.dpcs.specs.declared.table.NewDpc.{NewDpc}
+use Rattle.wakes.specs.Wake.{waitsOn}
+use Rattle.dpc_table.specs.declared.NewDpc.{NewDpc}
 use Rattle.dpcs.specs.Named.{isNamed}
-use Rattle.dpcs.specs.Table as dpcs
+use Rattle.dpc_table.specs.Table as dpcs
 use Rattle.answers.specs.declared.Answer.the-variants as answer
 use Rattle.answers.specs.Outcome.{Outcome, outcome, unless, bit}
 use Rattle.dpcs.specs.Record.{dpcCount}

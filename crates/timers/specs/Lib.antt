@@ -1,6 +1,4 @@
-pub mod Signed
 pub mod Record
 pub mod Reads
 pub mod Initialize
-pub mod Arm
 pub mod Release

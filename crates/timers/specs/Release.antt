@@ -8,8 +8,8 @@ use Rattle.words.specs.Layout as at
 use Rattle.tables.specs.Compact.{compacted, compactedTo}
 use Rattle.objects.specs.Objects.{objectsBase, objectCount, dpcsBase, dpcFound}
 use Rattle.images.specs.Place.{overlaps}
-use Rattle.waits.specs.Wake.{waitsOn}
-use Rattle.dpcs.specs.Table as dpcs
+use Rattle.wakes.specs.Wake.{waitsOn}
+use Rattle.dpc_table.specs.Table as dpcs
 use Rattle.answers.specs.declared.Answer.{Answer}
 use Rattle.answers.specs.declared.Answer.the-variants as answer
 use Rattle.answers.specs.Outcome.{Outcome, outcome, unless}

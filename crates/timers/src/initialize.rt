@@ -5,9 +5,8 @@ ghost use Rattle.timers.specs.Initialize.{newTimer, newDpc, objectOverla
 use super::record;
 use answers::Answer;
 use arch::Architecture;
-use dpcs::table::NewDpc;
+use dpc_table::NewDpc;
 use images::TimerBacking;
-use waits::wake;
 use words::layout;
 
 // The bytes that an event and a mutex are taken to have.
@@ -114,7 +113,7 @@ fn place_refusal(
 fn is_in_use(w: &[u64], address: u64) -> bool
     ensures { λ r. ⌜ r ≡ inUse (now (w .entry)) address ⌝ }
 {
-    if wake::waits_on(w, objects::TIMER, address) {
+    if wakes::waits_on(w, objects::TIMER, address) {
         return true;
     }
     let at = objects::place_of(w, objects::TIMER, address);
@@ -291,7 +290,7 @@ pub fn initialize_dpc(
         return Answer::Refused(refusal);
     }
     let n = words::get(w, layout::DPC_INITIALIZATIONS) + 1;
-    dpcs::table::enter(w, address, new_dpc(architecture, backing, routine, context));
+    dpc_table::enter(w, address, new_dpc(architecture, backing, routine, context));
     words::put(w, layout::DPC_INITIALIZATIONS, n);
     Answer::Done
 }

@@ -4,7 +4,6 @@ ghost use Rattle.answers.specs.Outcome.{outcome};
 ghost use Rattle.timers.specs.Release.{periodicOrigin, activeOrigin, timerHeld, timerStands, isTimerHeld, anyTimerHeld, dpcHeld, dpcStands, isDpcHeld, anyDpcHeld, releaseRefusal, timerRelease, timerMarked, timersMarked, timersClosed, dpcMarked, dpcsMarked, timersRetired};
 use super::record;
 use answers::Answer;
-use waits::wake;
 use words::layout;
 
 // The kind that marks an object that goes.
@@ -63,7 +62,7 @@ fn is_timer_held(w: &[u64], at: usize) -> bool
         return true;
     }
     let key = words::get_in(w, at, layout::KEY);
-    if wake::waits_on(w, objects::TIMER, key) {
+    if wakes::waits_on(w, objects::TIMER, key) {
         return true;
     }
     is_active_origin(w, key)
@@ -204,7 +203,7 @@ fn mark_dpc(w: &mut [u64], at: usize, address: u64, size: u64)
     if !dpc_stands(w, at, address, size) {
         return;
     }
-    words::put_in(w, at, layout::PHASE, dpcs::table::GONE);
+    words::put_in(w, at, layout::PHASE, dpc_table::GONE);
 }
 
 fn mark_dpcs(w: &mut [u64], address: u64, size: u64)
@@ -231,6 +230,6 @@ pub fn retire_timer_backing(w: &mut [u64], address: u64, size: u64) -> Answer
     mark_timers(w, address, size);
     close_up(w);
     mark_dpcs(w, address, size);
-    dpcs::table::close_up(w);
+    dpc_table::close_up(w);
     Answer::Done
 }

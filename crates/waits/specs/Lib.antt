@@ -1,3 +1,2 @@
 pub mod Object
 pub mod Lists
-pub mod Wake

@@ -1,4 +1,3 @@
-// What a list of objects asks and what it takes, and the wake pass.
+// What a list of objects asks and what it takes.
 pub mod lists;
 pub mod object;
-pub mod wake;

@@ -2,7 +2,8 @@ use mathlib.Core.Path.{_∙_, sym}
 use borrow.Author.Tests.{not-true, not-false}
 use Rattle.form.specs.Form.{inForm}
 use Rattle.form_dpc.proofs.FormDpcLaws as dpc
-use Rattle.form.proofs.FormLaws.{seen-pass, waiters-as, ready-as, risen}
+use Rattle.form_threads.proofs.ThreadLaws.{seen-pass}
+use Rattle.form.proofs.FormLaws.{waiters-as, ready-as, risen}
 use borrow.Author.Needs.{needs}
 use Rattle.form.proofs.in_form.Statement.{statement}
 use Rattle.form.proofs.in_form.Tie as tie

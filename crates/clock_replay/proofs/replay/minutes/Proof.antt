@@ -1,5 +1,5 @@
 use native.Mathlib.Omega.{arith}
-use Rattle.exports.proofs.OffsetLaws.{difference-fits}
+use Rattle.clock_words.proofs.OffsetLaws.{difference-fits}
 use borrow.Author.Needs.{needs}
 use Rattle.clock_replay.proofs.replay.minutes.Statement.{statement}
 use Rattle.clock_replay.proofs.replay.minutes.Tie as tie

@@ -1,4 +1,4 @@
-use Rattle.exports.specs.ClockWords.{changed}
+use Rattle.clock_words.specs.ClockWords.{changed}
 use borrow.Author.Needs.{needs}
 use Rattle.exports.proofs.clock_calls.clock_advance_100ns.Statement.{statement}
 use Rattle.exports.proofs.clock_calls.clock_advance_100ns.Tie as tie

@@ -1,7 +1,7 @@
 use borrow.Author.Tests.{lt-ltb, le-ltb}
 use mathlib.Core.Path.{sym, _∙_}
 use mir.Facts.{toZ-ofZ}
-use Rattle.exports.specs.ClockWords.{opened}
+use Rattle.clock_words.specs.ClockWords.{opened}
 use borrow.Author.Needs.{needs}
 use Rattle.exports.proofs.clock_calls.clock_new.Statement.{statement}
 use Rattle.exports.proofs.clock_calls.clock_new.Tie as tie

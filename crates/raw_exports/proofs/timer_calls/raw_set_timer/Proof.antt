@@ -1,7 +1,7 @@
 use mathlib.Core.Path.{_∙_}
 use denote.Ref.{now}
 use mir.Facts.{toZ-ofZ}
-use Rattle.timers.specs.Arm as arm
+use Rattle.arming.specs.Arm as arm
 use Rattle.exports.specs.SchedulerAnswer.{given, truth}
 use Rattle.exports.proofs.AnswerLaws.{changed-short, changed-by}
 use borrow.Author.Needs.{needs}

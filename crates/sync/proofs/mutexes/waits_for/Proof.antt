@@ -4,7 +4,7 @@ use mathlib.Core.Path.{_≡_}
 use mathlib.Core.Bool.{true, false}
 use Rattle.threads.specs.Thread.{countOf, placesAt}
 use Rattle.waits.specs.Lists.{hasPair}
-use Rattle.waits.proofs.WakeLaws.{count-most}
+use Rattle.wakes.proofs.WakeLaws.{count-most}
 use Rattle.sync.specs.Mutexes.{waitsFor}
 use borrow.Author.Needs.{needs}
 use Rattle.sync.proofs.mutexes.waits_for.Statement.{statement}

@@ -1,0 +1,41 @@
+use borrow.Author.Tests.{eq-eqb, ne-eqb}
+use Rattle.arming.specs.Arm.{named}
+use borrow.Author.Needs.{needs}
+use Rattle.arming.proofs.name.Statement.{statement}
+use Rattle.arming.proofs.name.Tie as tie
+
+returns : tie.Need-returns
+unfolding named
+returns c = simp (eq-eqb _ _ (c .if1 .taken))
+
+find-dpc-requires : tie.Need-find-dpc-requires
+find-dpc-requires c κs = search needs
+
+same-length : tie.Need-same-length
+same-length c = search needs
+
+returns-2 : tie.Need-returns-2
+unfolding named
+returns-2 c = simp (ne-eqb _ _ (c .before .before .before .if1 .left), ← (c .before .find-dpc .ensures), eq-eqb _ _ (c .if2 .taken))
+
+put-in-requires : tie.Need-put-in-requires
+put-in-requires c κs = search needs
+
+same-length-2 : tie.Need-same-length-2
+same-length-2 c = search needs
+
+returns-3 : tie.Need-returns-3
+unfolding named
+returns-3 c = simp (ne-eqb _ _ (c .before .before .before .before .before .before .before .if1 .left), ← (c .before .before .before .before .before .find-dpc .ensures), ne-eqb _ _ (c .before .before .before .before .if2 .left)) (cc)
+
+pub name-spec : {M : Type 1} → statement M
+name-spec =
+    tie.close
+    (tie.spec
+    returns
+    find-dpc-requires
+    same-length
+    returns-2
+    put-in-requires
+    same-length-2
+    returns-3)

@@ -1,0 +1,2 @@
+pub mod OffsetLaws
+pub mod WordLaws

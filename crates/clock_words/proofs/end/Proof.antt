@@ -1,0 +1,27 @@
+use borrow.Author.Tests.{ne-eqb}
+use mathlib.Core.Path.{ap, sym, _∙_}
+use Rattle.clock_words.specs.ClockWords.{ended, returned}
+use borrow.Author.Needs.{needs}
+use Rattle.clock_words.proofs.end.Statement.{statement}
+use Rattle.clock_words.proofs.end.Tie as tie
+
+refusal-number-requires : tie.Need-refusal-number-requires
+refusal-number-requires c κs = search needs
+
+returns : tie.Need-returns
+unfolding ended
+returns c = simp (sym (c .before .refusal-number .ensures) ∙ c .if1 .taken)
+
+store-requires : tie.Need-store-requires
+store-requires c κs = search needs
+
+same-length : tie.Need-same-length
+same-length c = search needs
+
+returns-2 : tie.Need-returns-2
+unfolding ended
+returns-2 c = simp (← (c .before .before .before .before .before .before .refusal-number .ensures), ne-eqb _ _ (c .before .before .before .before .before .if1 .left)) (ap (returned _) (c .before .before .store .ensures))
+
+pub end-spec : {M : Type 1} → statement M
+end-spec =
+    tie.close (tie.spec refusal-number-requires returns store-requires same-length returns-2)

@@ -1,0 +1,40 @@
+use borrow.Author.Tests.{eq-eqb, ne-eqb}
+use Rattle.events.specs.Events.{wasReset}
+use borrow.Author.Needs.{needs}
+use Rattle.events.proofs.reset_event.Statement.{statement}
+use Rattle.events.proofs.reset_event.Tie as tie
+
+place-of-requires : tie.Need-place-of-requires
+place-of-requires c κs = search needs
+
+same-length : tie.Need-same-length
+same-length c = search needs
+
+returns : tie.Need-returns
+unfolding wasReset
+returns c = simp (← (c .before .place-of .ensures), eq-eqb _ _ (c .if1 .taken))
+
+was-signaled-requires : tie.Need-was-signaled-requires
+was-signaled-requires c κs = search needs
+
+put-in-requires : tie.Need-put-in-requires
+put-in-requires c κs = search needs
+
+same-length-2 : tie.Need-same-length-2
+same-length-2 c = search needs
+
+returns-2 : tie.Need-returns-2
+unfolding wasReset
+returns-2 c = simp (← (c .before .before .before .before .before .before .before .place-of .ensures), ne-eqb _ _ (c .before .before .before .before .before .before .if1 .left)) (cc)
+
+pub reset-event-spec : {M : Type 1} → statement M
+reset-event-spec =
+    tie.close
+    (tie.spec
+    place-of-requires
+    same-length
+    returns
+    was-signaled-requires
+    put-in-requires
+    same-length-2
+    returns-2)

@@ -1,0 +1,39 @@
+use denote.Ref.{now}
+use native.Mathlib.Omega.{arith}
+use borrow.Author.Tests.{eq-eqb, ne-eqb}
+use Rattle.wakes.specs.Wake.{grantable}
+use Rattle.wakes.proofs.WakeLaws.{count-most}
+use borrow.Author.Needs.{needs}
+use Rattle.wakes.proofs.is_grantable.Statement.{statement}
+use Rattle.wakes.proofs.is_grantable.Tie as tie
+
+count-of-requires : tie.Need-count-of-requires
+count-of-requires c κs = search needs
+
+returns : tie.Need-returns
+unfolding grantable
+returns c = simp (← (c .before .count-of .ensures), eq-eqb _ _ (c .if1 .taken))
+
+places-at-requires : tie.Need-places-at-requires
+places-at-requires c κs = search needs
+
+all-of-requires : tie.Need-all-of-requires
+all-of-requires c κs = search needs
+
+is-met-requires : tie.Need-is-met-requires
+is-met-requires c κs = omega (arith, count-most (now (c .before .before .before .before .before .args .w)) (c .before .before .before .before .before .args .id), c .before .before .before .count-of .ensures)
+
+returns-2 : tie.Need-returns-2
+unfolding grantable
+returns-2 c = simp (← (c .before .before .before .before .count-of .ensures), ne-eqb _ _ (c .before .before .before .if1 .left)) (cc)
+
+pub is-grantable-spec : {M : Type 1} → statement M
+is-grantable-spec =
+    tie.close
+    (tie.spec
+    count-of-requires
+    returns
+    places-at-requires
+    all-of-requires
+    is-met-requires
+    returns-2)
