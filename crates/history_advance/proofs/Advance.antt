@@ -32,8 +32,8 @@ use Rattle.history.proofs.Matches.{plainly-unless, plainly-refused}
 use Rattle.history_wakes.proofs.Holders.{Held, held-wake, agree-held}
 use Rattle.history_wakes.proofs.Wake.{sim-wake}
 use Rattle.history_wakes.proofs.Timeouts.{sim-timeouts, timeout-objects}
-use Rattle.history_expiry.proofs.Refusals.{expiry-refusal-is}
-use Rattle.history_expiry.proofs.Expire.{sim-expired}
+use Rattle.history_advance.proofs.Refusals.{expiry-refusal-is}
+use Rattle.history_advance.proofs.Expire.{sim-expired}
 
 module _ (w : List ℕ) (s : State) (a : Agree w s) (v : Valid s) (time : ℕ) where
   -- the refusal of the expiry

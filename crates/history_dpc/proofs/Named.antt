@@ -29,8 +29,8 @@ use Rattle.history.specs.Agree.{objectsFrom, Agree}
 use Rattle.history.proofs.Places.{entry-place}
 use Rattle.history.proofs.Headers.{objects-few}
 use Rattle.history.proofs.Lookups.{base-is, object-count-is, dpc-place, dpc-row}
-use Rattle.history_holders.proofs.Holders.{has}
-use Rattle.history_holders.proofs.Named.{holds-parts, is-named}
+use Rattle.history_work.proofs.Holders.{has}
+use Rattle.history_work.proofs.Named.{holds-parts, is-named}
 use Rattle.history_dpc.proofs.Found.{place-none}
 
 -- an object's record tells whether it is an inserted timer without a DPC

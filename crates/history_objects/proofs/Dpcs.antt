@@ -34,7 +34,7 @@ use Rattle.model.specs.Step.{step, refusal, effect, withDpcs, dpcInitialized}
 use Rattle.model.proofs.ListLaws.{not-both, mem-member}
 use Rattle.model.proofs.RowLaws.{passes, holds}
 use Rattle.model.proofs.KeepDpcs.{valid-init-dpc}
-use Rattle.history_holders.proofs.Named.{holder-none}
+use Rattle.history_work.proofs.Named.{holder-none}
 use Rattle.history.specs.Records.{holderOf, activeAddress}
 use Rattle.history.specs.Agree.{Agree, Agreeing}
 use Rattle.history.specs.Matches.{Plainly}

@@ -40,7 +40,7 @@ use Rattle.history.proofs.Places.{entry-place}
 use Rattle.history.proofs.Records.{flag-read}
 use Rattle.history.proofs.Lookups.{base-is, object-count-is, object-place, object-row}
 use Rattle.history.proofs.Matches.{plainly-unless, step-accepted}
-use Rattle.history_named.proofs.Waiters.{waits-on-is}
+use Rattle.history_wakes.proofs.Waiters.{waits-on-is}
 use Rattle.history_objects.proofs.Tests.{collides-is, full-is, event-known}
 use Rattle.history_objects.proofs.Plain.{no-timer, agree-enter}
 

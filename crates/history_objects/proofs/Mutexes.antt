@@ -30,7 +30,7 @@ use Rattle.history.specs.Records.{holderOf, activeAddress}
 use Rattle.history.specs.Agree.{Agree}
 use Rattle.history.specs.Matches.{Plainly}
 use Rattle.history.proofs.Matches.{plainly-unless, step-accepted, step-refused}
-use Rattle.history_named.proofs.Waiters.{waits-on-is, mutex-waiters-is}
+use Rattle.history_wakes.proofs.Waiters.{waits-on-is, mutex-waiters-is}
 use Rattle.history_objects.proofs.Tests.{collides-is, full-is, mutex-known, owner-is, owned-is, live-is}
 use Rattle.history_objects.proofs.Plain.{no-timer, agree-enter}
 

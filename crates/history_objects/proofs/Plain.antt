@@ -15,9 +15,9 @@ use Rattle.model.specs.Dpcs.{dpcAt}
 use Rattle.model.specs.Refusal.{collides}
 use Rattle.model.specs.Step.{withTable}
 use Rattle.model.proofs.ListLaws.{not-both}
-use Rattle.history_holders.proofs.Holders.{has}
-use Rattle.history_holders.proofs.Puts.{holder-plain}
-use Rattle.history_holders.proofs.Same.{agreeing-same}
+use Rattle.history_work.proofs.Holders.{has}
+use Rattle.history_work.proofs.Puts.{holder-plain}
+use Rattle.history_work.proofs.Same.{agreeing-same}
 use Rattle.history.specs.Records.{objectRow, holderOf, activeAddress}
 use Rattle.history.specs.Shape.{ObjectFits}
 use Rattle.history.specs.Agree.{Agree}

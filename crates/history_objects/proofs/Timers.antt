@@ -30,8 +30,8 @@ use Rattle.model.proofs.RowLaws.{passes}
 use Rattle.model.proofs.KeepObjects.{room-for}
 use Rattle.model.proofs.ObjectLaws.{timer-found}
 use Rattle.history_tables.specs.Tables.{below}
-use Rattle.history_holders.proofs.Puts.{holder-idle}
-use Rattle.history_holders.proofs.Same.{agreeing-same}
+use Rattle.history_work.proofs.Puts.{holder-idle}
+use Rattle.history_work.proofs.Same.{agreeing-same}
 use Rattle.history.specs.Records.{flag, holderOf, activeAddress}
 use Rattle.history.specs.Agree.{objectsFrom, Agree, Agreeing}
 use Rattle.history.specs.Matches.{Plainly}
@@ -41,7 +41,7 @@ use Rattle.history.proofs.Headers.{sim-timers-made}
 use Rattle.history.proofs.Records.{flag-read}
 use Rattle.history.proofs.Lookups.{object-place, object-row}
 use Rattle.history.proofs.Matches.{plainly-unless}
-use Rattle.history_named.proofs.Waiters.{waits-on-is}
+use Rattle.history_wakes.proofs.Waiters.{waits-on-is}
 use Rattle.history_objects.proofs.Tests.{collides-is, full-is, timer-known}
 use Rattle.history_objects.proofs.Enter.{fiveRow, sim-entered, entered-row, entered-long, entered-place}
 use Rattle.history_objects.proofs.Overlaps.{place-refusal}

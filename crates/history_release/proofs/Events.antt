@@ -35,8 +35,8 @@ use Rattle.history.proofs.Frames.{object-short}
 use Rattle.history.proofs.Headers.{objects-few}
 use Rattle.history.proofs.Lookups.{base-is}
 use Rattle.history.proofs.Matches.{plainly-unless}
-use Rattle.history_named.proofs.Waiters.{waits-on-is}
-use Rattle.history_holders.proofs.Holders.{has, holder-keep}
+use Rattle.history_wakes.proofs.Waiters.{waits-on-is}
+use Rattle.history_work.proofs.Holders.{has, holder-keep}
 use Rattle.history.proofs.Written.{Elsewhere, sim-objects}
 use Rattle.history_release.proofs.Fewer.{same-named}
 use Rattle.history_release.proofs.EventRefusal.{leb-not, event-release-is}

@@ -26,8 +26,8 @@ use Rattle.history.specs.Agree.{objectsFrom, dpcsFrom, Agree}
 use Rattle.history.proofs.Records.{flag-read, architecture-read}
 use Rattle.history.proofs.Headers.{objects-few, dpcs-few}
 use Rattle.history.proofs.Lookups.{base-is, object-count-is, dpcs-base-is, dpc-count-is}
-use Rattle.history_named.proofs.Waiters.{waits-on-is}
-use Rattle.history_holders.proofs.Named.{is-named}
+use Rattle.history_wakes.proofs.Waiters.{waits-on-is}
+use Rattle.history_work.proofs.Named.{is-named}
 use Rattle.history.proofs.Walks.{some-is}
 use Rattle.history_release.proofs.Walks.{onTimer, any-timer}
 use Rattle.history_release.proofs.Origins.{active-origin-is}

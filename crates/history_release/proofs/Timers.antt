@@ -33,8 +33,8 @@ use Rattle.history.specs.Records.{holderOf, activeAddress}
 use Rattle.history.specs.Agree.{Agree}
 use Rattle.history.specs.Matches.{Plainly}
 use Rattle.history.proofs.Matches.{plainly-unless}
-use Rattle.history_holders.proofs.Holders.{has, holder-keep}
-use Rattle.history_holders.proofs.Named.{idle-holds}
+use Rattle.history_work.proofs.Holders.{has, holder-keep}
+use Rattle.history_work.proofs.Named.{idle-holds}
 use Rattle.history_release.proofs.Walks.{first-kept}
 use Rattle.history_release.proofs.Fewer.{same-named}
 use Rattle.history_release.proofs.TimerRefusal.{timer-release-is}

@@ -32,7 +32,7 @@ use Rattle.history.specs.Agree.{objectsFrom, Agreeing}
 use Rattle.history.proofs.Places.{entry-place}
 use Rattle.history.proofs.Headers.{objects-few}
 use Rattle.history.proofs.Lookups.{base-is, object-count-is}
-use Rattle.history_named.proofs.Waiters.{waits-on-is}
+use Rattle.history_wakes.proofs.Waiters.{waits-on-is}
 use Rattle.history_threads.proofs.Least.{Least, dueOf, least-on, least-same, least-smallest, least-perhaps, Among, among-mem, least-step, least-stop}
 use Rattle.history_threads.proofs.Times.{countedDue, due-among, among-due, deadlineAt, least-deadline, waiter-thread, thread-waiter}
 

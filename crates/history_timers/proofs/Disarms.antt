@@ -32,10 +32,10 @@ use Rattle.history.proofs.Objects.{sim-put-object}
 use Rattle.history_work.proofs.Counts.{few-removed}
 use Rattle.history_work.proofs.Work.{sim-withdrawn}
 use Rattle.history_work.proofs.Active.{active-same}
-use Rattle.history_holders.proofs.Puts.{holder-timer}
-use Rattle.history_holders.proofs.Named.{idle-holds}
-use Rattle.history_holders.proofs.Armed.{holder-gone}
-use Rattle.history_holders.proofs.Same.{agreeing-same}
+use Rattle.history_work.proofs.Puts.{holder-timer}
+use Rattle.history_work.proofs.Named.{idle-holds}
+use Rattle.history_work.proofs.Armed.{holder-gone}
+use Rattle.history_work.proofs.Same.{agreeing-same}
 use Rattle.history_timers.proofs.Naming.{sim-unnamed}
 
 -- work that a cancel takes out is queued

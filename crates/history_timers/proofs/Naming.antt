@@ -24,7 +24,7 @@ use Rattle.history.specs.Agree.{objectsFrom, Agreeing}
 use Rattle.history.proofs.Records.{flag-read}
 use Rattle.history.proofs.Lookups.{object-row}
 use Rattle.history.proofs.Dpcs.{sim-holder}
-use Rattle.history_holders.proofs.Same.{agreeing-at, agreeing-same}
+use Rattle.history_work.proofs.Same.{agreeing-at, agreeing-same}
 use Rattle.history_timers.proofs.Found.{dpc-missing, dpc-known}
 
 swapped : (x y : ℕ) → eqb x y ≡ eqb y x

@@ -25,7 +25,7 @@ use Rattle.model.specs.Valid.{Valid}
 use Rattle.model.proofs.ListLaws.{not-both}
 use Rattle.history.specs.Records.{holderOf, activeAddress}
 use Rattle.history.specs.Agree.{Agree}
-use Rattle.history_holders.proofs.Named.{named-by-other}
+use Rattle.history_work.proofs.Named.{named-by-other}
 use Rattle.history_timers.proofs.Found.{timer-object, dpc-missing, dpc-known, holder-is, busy-is, timer-missing, timer-known, timer-word}
 
 -- an arm count that has not passed the end is at it or before it

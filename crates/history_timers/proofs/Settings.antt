@@ -22,9 +22,9 @@ use Rattle.history.specs.Agree.{objectsFrom, Agreeing, Agree}
 use Rattle.history.proofs.Rows.{Store, store, written, In}
 use Rattle.history.proofs.Places.{Any}
 use Rattle.history.proofs.Objects.{sim-put-object}
-use Rattle.history_holders.proofs.Puts.{holder-timer}
-use Rattle.history_holders.proofs.Named.{other-holds}
-use Rattle.history_holders.proofs.Armed.{holder-armed, holder-gone}
+use Rattle.history_work.proofs.Puts.{holder-timer}
+use Rattle.history_work.proofs.Named.{other-holds}
+use Rattle.history_work.proofs.Armed.{holder-armed, holder-gone}
 use Rattle.history_timers.proofs.Naming.{sim-named, sim-unnamed}
 
 -- ---- the record

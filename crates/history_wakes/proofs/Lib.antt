@@ -1,3 +1,6 @@
+pub mod Counts
+pub mod Pairs
+pub mod Waiters
 pub mod Tests
 pub mod Lists
 pub mod Puts

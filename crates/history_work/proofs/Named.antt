@@ -20,7 +20,7 @@ use Rattle.model.proofs.ListLaws.{not-both, any-false, any-none, any-at}
 use Rattle.model.proofs.TableLaws.{each-mem}
 use Rattle.model.proofs.LinkLaws.{timer-mem, mem-timer}
 use Rattle.history.specs.Records.{holds, holderOf}
-use Rattle.history_holders.proofs.Holders.{has, Held, Unheld, held, holder-absent}
+use Rattle.history_work.proofs.Holders.{has, Held, Unheld, held, holder-absent}
 
 pub holds-parts : (a : ℕ) (t : Timer) → holds a t ≡ true → (t .inserted ≡ true) × (t .dpc ≡ a)
 holds-parts a t e = go (t .inserted) refl e

@@ -30,12 +30,12 @@ use Rattle.history.proofs.Objects.{sim-put-object}
 use Rattle.history.proofs.Dpcs.{sim-holder}
 use Rattle.history.proofs.Lookups.{object-row}
 use Rattle.history_work.proofs.Counts.{place-found}
-use Rattle.history_holders.proofs.Puts.{holder-timer, holder-same}
-use Rattle.history_holders.proofs.Named.{parts-hold, other-holds}
-use Rattle.history_holders.proofs.Armed.{holder-gone}
-use Rattle.history_holders.proofs.Same.{agreeing-same}
-use Rattle.history_expiry.proofs.Check.{next-due-is}
-use Rattle.history_expiry.proofs.Passed.{next-passed}
+use Rattle.history_work.proofs.Puts.{holder-timer, holder-same}
+use Rattle.history_work.proofs.Named.{parts-hold, other-holds}
+use Rattle.history_work.proofs.Armed.{holder-gone}
+use Rattle.history_work.proofs.Same.{agreeing-same}
+use Rattle.history_advance.proofs.Check.{next-due-is}
+use Rattle.history_advance.proofs.Passed.{next-passed}
 
 -- the due of a timer that is due again
 later-is : (due time period : ℕ) → nextDue due period time ≤ most → laterDue due time period ≡ nextDue due period time

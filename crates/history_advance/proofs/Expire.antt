@@ -30,12 +30,12 @@ use Rattle.history_tables.proofs.Numbers.{below-nth}
 use Rattle.history.specs.Records.{activeAddress, holderOf}
 use Rattle.history.specs.Agree.{objectsFrom, Agreeing, Agree}
 use Rattle.history.proofs.Lookups.{base-is}
-use Rattle.history_expiry.proofs.Order.{Names, entry-is, timer-row-at, order-names}
-use Rattle.history_expiry.proofs.Apart.{after-present}
-use Rattle.history_expiry.proofs.Passed.{first-zero, horizon-passed}
-use Rattle.history_expiry.proofs.Refusals.{expiry-refusal-is}
-use Rattle.history_expiry.proofs.Work.{active-after, sim-work-queued}
-use Rattle.history_expiry.proofs.Settle.{sim-settled}
+use Rattle.history_advance.proofs.Order.{Names, entry-is, timer-row-at, order-names}
+use Rattle.history_advance.proofs.Apart.{after-present}
+use Rattle.history_advance.proofs.Passed.{first-zero, horizon-passed}
+use Rattle.history_advance.proofs.Refusals.{expiry-refusal-is}
+use Rattle.history_advance.proofs.Work.{active-after, sim-work-queued}
+use Rattle.history_advance.proofs.Settle.{sim-settled}
 
 -- the state in the midst of the expiry
 abbrev pub inMidst : State → Expired → State

@@ -31,7 +31,7 @@ use Rattle.history.specs.Agree.{Agreeing}
 use Rattle.history.proofs.Dpcs.{beforeWork}
 use Rattle.history.proofs.Lookups.{dpc-row}
 use Rattle.history_work.proofs.Counts.{place-numbered}
-use Rattle.history_expiry.proofs.Order.{policy-is}
+use Rattle.history_advance.proofs.Order.{policy-is}
 
 -- ---- 13
 

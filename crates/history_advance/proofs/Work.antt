@@ -30,8 +30,8 @@ use Rattle.history.specs.Agree.{Agreeing}
 use Rattle.history.proofs.Dpcs.{storedOrigin}
 use Rattle.history_work.proofs.Work.{not-queued, sim-accepted-work, sim-duplicated}
 use Rattle.history_work.proofs.Active.{active-same}
-use Rattle.history_expiry.proofs.Check.{dpc-row-at}
-use Rattle.history_expiry.proofs.Passed.{plain-passed, queuing-passed, work-passed, idle-passed, queued-passed}
+use Rattle.history_advance.proofs.Check.{dpc-row-at}
+use Rattle.history_advance.proofs.Passed.{plain-passed, queuing-passed, work-passed, idle-passed, queued-passed}
 
 -- ---- the active DPC is the same
 

@@ -23,8 +23,8 @@ use Rattle.history_chains.specs.Chains.{back}
 use Rattle.history_chains.proofs.Walks.{back-is}
 use Rattle.history.specs.Agree.{Agreeing}
 use Rattle.history.proofs.Headers.{threads-few}
-use Rattle.history_named.proofs.Counts.{waiters-count, waiters-any, any-same, count-same}
-use Rattle.history_named.proofs.Pairs.{has-pair-is}
+use Rattle.history_wakes.proofs.Counts.{waiters-count, waiters-any, any-same, count-same}
+use Rattle.history_wakes.proofs.Pairs.{has-pair-is}
 
 -- the thread waits, and its list names the object
 abbrev pub awaits : Named → Thread → Bool

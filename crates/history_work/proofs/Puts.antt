@@ -16,7 +16,7 @@ use Rattle.model.specs.Waits.{keyOf, objectAt, asTimer, timerAt, putObject}
 use Rattle.model.specs.Refusal.{isInserted}
 use Rattle.model.proofs.TableLaws.{some-same, none-some, found, mem-found, find-put-own, mem-put, rising-put}
 use Rattle.history.specs.Records.{holds, holderOf}
-use Rattle.history_holders.proofs.Holders.{has, holder-cons, holder-no, holder-tail, holder-absent, holder-is}
+use Rattle.history_work.proofs.Holders.{has, holder-cons, holder-no, holder-tail, holder-absent, holder-is}
 
 above-none : (l : List Object) (j k : ℕ) → j ≤ k → Above keyOf k l → objectAt l j ≡ none
 above-none [] j k le h = refl

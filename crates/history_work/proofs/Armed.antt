@@ -15,9 +15,9 @@ use Rattle.model.proofs.ListLaws.{not-both}
 use Rattle.model.proofs.TableLaws.{found, mem-found}
 use Rattle.model.proofs.LinkLaws.{unnamed-by-other}
 use Rattle.history.specs.Records.{holds, holderOf}
-use Rattle.history_holders.proofs.Holders.{has, holder-is}
-use Rattle.history_holders.proofs.Puts.{holder-put-own, holder-put-none}
-use Rattle.history_holders.proofs.Named.{holds-parts, parts-hold, alone-has}
+use Rattle.history_work.proofs.Holders.{has, holder-is}
+use Rattle.history_work.proofs.Puts.{holder-put-own, holder-put-none}
+use Rattle.history_work.proofs.Named.{holds-parts, parts-hold, alone-has}
 
 -- it is inserted, and no other has its DPC
 pub holder-armed : (l : List Object) → Rising keyOf l → (t : Timer) → t .inserted ≡ true → isNamedByOther l (t .address) (t .dpc) ≡ false

@@ -35,10 +35,10 @@ use Rattle.history.specs.Records.{activeAddress, timerRow, phaseNumber, holderO
 use Rattle.history.specs.Agree.{objectsFrom, Agreeing, Agree}
 use Rattle.history.proofs.Lookups.{base-is}
 use Rattle.history_work.proofs.Counts.{one-more}
-use Rattle.history_expiry.proofs.Order.{Names, timer-row-at, order-names}
-use Rattle.history_expiry.proofs.Check.{dpc-row-at, one-refusal}
-use Rattle.history_expiry.proofs.Apart.{Untouched, untouched-on}
-use Rattle.history_expiry.proofs.Passed.{plain-passed, queuing-passed, work-passed, idle-passed, queued-passed}
+use Rattle.history_advance.proofs.Order.{Names, timer-row-at, order-names}
+use Rattle.history_advance.proofs.Check.{dpc-row-at, one-refusal}
+use Rattle.history_advance.proofs.Apart.{Untouched, untouched-on}
+use Rattle.history_advance.proofs.Passed.{plain-passed, queuing-passed, work-passed, idle-passed, queued-passed}
 
 -- the counts of DPCs
 abbrev pub countsOf : Dpcs → Counts

@@ -1,5 +1,0 @@
-pub mod Holders
-pub mod Puts
-pub mod Named
-pub mod Armed
-pub mod Same

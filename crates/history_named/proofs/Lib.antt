@@ -1,3 +1,0 @@
-pub mod Counts
-pub mod Pairs
-pub mod Waiters
