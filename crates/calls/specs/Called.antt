@@ -4,7 +4,6 @@ use Prim.Native.Nat.{ℕ}
 use mathlib.Core.List.{List}
 use mathlib.Core.Bool.{Bool, true, false, cond}
 use mathlib.Core.Option.{Option, none, some}
-use Rattle.answers.specs.declared.Answer.{Answer}
 use Rattle.answers.specs.Outcome.{Outcome}
 use Rattle.opening.specs.Open.{opened}
 use Rattle.kernel.specs.Thread as thread
@@ -15,118 +14,22 @@ use Rattle.waiting.specs.Wait as wait
 use Rattle.advancing.specs.Advance as time
 use Rattle.dispatcher.specs.Dispatch.{Dispatched}
 use Rattle.dispatcher.specs.Read as read
-use Rattle.dispatcher.specs.declared.read.ThreadAnswer.{ThreadAnswer}
-use Rattle.dispatcher.specs.declared.read.PlaceAnswer.{PlaceAnswer}
 use Rattle.timers.specs.Initialize as initialize
 use Rattle.arming.specs.Arm as arm
 use Rattle.timers.specs.Release as timer-release
 use Rattle.timers.specs.Reads as timer-read
-use Rattle.timers.specs.declared.TimerAnswer.{TimerAnswer}
 use Rattle.dpc.specs.Work as dpcs
 use Rattle.dpc.specs.Work.{Started}
 use Rattle.dpc_reads.specs.Reads as dpc-read
-use Rattle.dpc_reads.specs.declared.DpcAnswer.{DpcAnswer}
-use Rattle.dpc_reads.specs.declared.PolicyAnswer.{PolicyAnswer}
-use Rattle.dpc_reads.specs.declared.CountersAnswer.{CountersAnswer}
 use Rattle.model.specs.Call.{Call, Read}
 use Rattle.model.specs.Call as call
-use Rattle.calls.specs.Guard.{guarded, guardedDispatch, guardedStart, readable, timerReadable, dpcReadable, policyReadable, countersReadable, threadReadable, placeReadable, guardedImage}
+use Rattle.calls.specs.Guard.{Kind, Code, guarded, guardedDispatch, guardedStart, readable, guardedImage}
+use Rattle.calls.specs.Guard as kind
 use Rattle.calls.specs.Images.{Imaged, timerImaged, dpcImaged}
 
 -- an argument that may be absent, as the code takes it: whether it is there, and its value
 abbrev pub optional : Bool → ℕ → Option ℕ
 optional there n = cond there (some n) none
-
--- ---- what a call gives, by its kind: an answer and the words after it; reads only an answer; what writes an output, a function of it
-
-abbrev pub ReadResult : Read → Type 0
-ReadResult call.Current = Answer
-ReadResult (call.Thread id) = ThreadAnswer
-ReadResult (call.Threads position) = ThreadAnswer
-ReadResult (call.WaitedObject id position) = PlaceAnswer
-ReadResult (call.MutexOwner key) = Answer
-ReadResult (call.MutexWaiters key) = Answer
-ReadResult (call.EventState key) = Answer
-ReadResult (call.EventStates position) = Answer
-ReadResult (call.RequireEventRelease base size layout) = Answer
-ReadResult (call.TimerAt address) = TimerAnswer
-ReadResult (call.DpcAt address) = DpcAnswer
-ReadResult (call.Timers position) = TimerAnswer
-ReadResult (call.Dpcs position) = DpcAnswer
-ReadResult (call.TimerImage address out) = List ℕ → Imaged
-ReadResult (call.DpcImage address out) = List ℕ → Imaged
-ReadResult call.TimerInitializations = Answer
-ReadResult call.DpcInitializations = Answer
-ReadResult (call.TimerReadOverlap address size) = Answer
-ReadResult (call.TimerMetadataOverlap address size) = Answer
-ReadResult call.PendingTimerDpc = TimerAnswer
-ReadResult (call.RequireTimerRelease address size) = Answer
-ReadResult call.DpcPolicy = PolicyAnswer
-ReadResult call.DpcCounters = CountersAnswer
-ReadResult (call.QueuedDpcs position) = Answer
-ReadResult call.ActiveDpc = DpcAnswer
-ReadResult call.NextDpc = DpcAnswer
-
-abbrev pub Result : Call → Type 0
-Result (call.Open words p t o d) = Outcome
-Result (call.CreateThread p) = Outcome
-Result (call.Priority id p) = Outcome
-Result (call.InitializeMutex key) = Outcome
-Result (call.InitializeEvent key manual signaled) = Outcome
-Result (call.AdoptMutex key owner) = Outcome
-Result (call.ReleaseMutex key) = Outcome
-Result (call.SetEvent key) = Outcome
-Result (call.ResetEvent key) = Outcome
-Result (call.RetireEventBacking base size layout) = Outcome
-Result (call.Wait l all deadline irql) = Outcome
-Result (call.DelayUntil deadline irql) = Outcome
-Result call.YieldCurrent = Outcome
-Result (call.Terminate status) = Outcome
-Result (call.AdvanceTo time) = Outcome
-Result (call.Dispatch out) = List ℕ → Dispatched
-Result (call.InitializeTimer address a b manual) = Outcome
-Result (call.InitializeDpc address a b routine context) = Outcome
-Result (call.SetTimer address due absolute period dpc) = Outcome
-Result (call.SetTimerSigned address v period dpc) = Outcome
-Result (call.CancelTimer address) = Outcome
-Result (call.RetireTimerBacking address size) = Outcome
-Result (call.ConfigureDpcDispatch first second) = Outcome
-Result (call.InsertQueueDpc address first second) = Outcome
-Result (call.RemoveQueueDpc address) = Outcome
-Result (call.StartDpc address) = Started
-Result (call.ReturnedDpc address n) = Outcome
-Result (call.RestoredDpc address n) = Outcome
-Result (call.Reads r) = ReadResult r
-
--- ---- reads
-
-unfoldable pub readCalled : List ℕ → (r : Read) → ReadResult r
-readCalled w call.Current = readable w (thread.currentAnswer w)
-readCalled w (call.Thread id) = threadReadable w (read.threadRead w id)
-readCalled w (call.Threads position) = threadReadable w (read.threadsAt w position)
-readCalled w (call.WaitedObject id position) = placeReadable w (read.waitedObject w id position)
-readCalled w (call.MutexOwner key) = readable w (mutexes.ownerAnswer w key)
-readCalled w (call.MutexWaiters key) = readable w (mutexes.waitersAnswer w key)
-readCalled w (call.EventState key) = readable w (events.eventState w key)
-readCalled w (call.EventStates position) = readable w (release.eventStates w position)
-readCalled w (call.RequireEventRelease base size layout) = readable w (release.releaseAnswer w base size layout)
-readCalled w (call.TimerAt address) = timerReadable w (timer-read.timerRead w address)
-readCalled w (call.DpcAt address) = dpcReadable w (dpc-read.dpcRead w address)
-readCalled w (call.Timers position) = timerReadable w (timer-read.timersAt w position)
-readCalled w (call.Dpcs position) = dpcReadable w (dpc-read.dpcsAt w position)
-readCalled w (call.TimerImage address n) = λ out. guardedImage w out (timerImaged w address out)
-readCalled w (call.DpcImage address n) = λ out. guardedImage w out (dpcImaged w address out)
-readCalled w call.TimerInitializations = readable w (timer-read.timerInitializations w)
-readCalled w call.DpcInitializations = readable w (dpc-read.initializationsRead w)
-readCalled w (call.TimerReadOverlap address size) = readable w (timer-read.readOverlap w address size)
-readCalled w (call.TimerMetadataOverlap address size) = readable w (timer-read.metadataOverlap w address size)
-readCalled w call.PendingTimerDpc = timerReadable w (timer-read.pendingRead w)
-readCalled w (call.RequireTimerRelease address size) = readable w (timer-release.timerRelease w address size)
-readCalled w call.DpcPolicy = policyReadable w (dpc-read.policyRead w)
-readCalled w call.DpcCounters = countersReadable w (dpc-read.countersRead w)
-readCalled w (call.QueuedDpcs position) = readable w (dpc-read.queuedDpcs w position)
-readCalled w call.ActiveDpc = dpcReadable w (dpc-read.activeDpc w)
-readCalled w call.NextDpc = dpcReadable w (dpc-read.nextDpc w)
 
 -- ---- calls with an argument that may be absent
 
@@ -138,35 +41,102 @@ abbrev pub waits : List ℕ → List ℕ → Bool → Option ℕ → ℕ → Out
 waits w l all none irql = wait.waited w l all false 0 irql
 waits w l all (some deadline) irql = wait.waited w l all true deadline irql
 
+-- ---- what a call is: which definition over the words it runs, by the kind of what it gives
+
+pub data Reading : Type 0 where
+  tells : (k : Kind) → (List ℕ → Code k) → Reading  -- an answer
+  images : ℕ → (List ℕ → List ℕ → Imaged) → Reading  -- an answer, and bytes in an output of this length
+
+pub data Meaning : Type 0 where
+  opens : ℕ → (List ℕ → Outcome) → Meaning  -- of any words, as many as it says
+  acts : (List ℕ → Outcome) → Meaning  -- an answer, and the words after the call
+  starts : (List ℕ → Started) → Meaning  -- work, and the words after the call
+  dispatches : ℕ → Meaning  -- on an output of this length
+  reads : Reading → Meaning  -- the words stay
+
+abbrev pub reading : Read → Reading
+reading call.Current = tells kind.plain (λ w. thread.currentAnswer w)
+reading (call.Thread id) = tells kind.threads (λ w. read.threadRead w id)
+reading (call.Threads position) = tells kind.threads (λ w. read.threadsAt w position)
+reading (call.WaitedObject id position) = tells kind.places (λ w. read.waitedObject w id position)
+reading (call.MutexOwner key) = tells kind.plain (λ w. mutexes.ownerAnswer w key)
+reading (call.MutexWaiters key) = tells kind.plain (λ w. mutexes.waitersAnswer w key)
+reading (call.EventState key) = tells kind.plain (λ w. events.eventState w key)
+reading (call.EventStates position) = tells kind.plain (λ w. release.eventStates w position)
+reading (call.RequireEventRelease base size layout) = tells kind.plain (λ w. release.releaseAnswer w base size layout)
+reading (call.TimerAt address) = tells kind.timers (λ w. timer-read.timerRead w address)
+reading (call.DpcAt address) = tells kind.dpcs (λ w. dpc-read.dpcRead w address)
+reading (call.Timers position) = tells kind.timers (λ w. timer-read.timersAt w position)
+reading (call.Dpcs position) = tells kind.dpcs (λ w. dpc-read.dpcsAt w position)
+reading (call.TimerImage address n) = images n (λ w. timerImaged w address)
+reading (call.DpcImage address n) = images n (λ w. dpcImaged w address)
+reading call.TimerInitializations = tells kind.plain (λ w. timer-read.timerInitializations w)
+reading call.DpcInitializations = tells kind.plain (λ w. dpc-read.initializationsRead w)
+reading (call.TimerReadOverlap address size) = tells kind.plain (λ w. timer-read.readOverlap w address size)
+reading (call.TimerMetadataOverlap address size) = tells kind.plain (λ w. timer-read.metadataOverlap w address size)
+reading call.PendingTimerDpc = tells kind.timers (λ w. timer-read.pendingRead w)
+reading (call.RequireTimerRelease address size) = tells kind.plain (λ w. timer-release.timerRelease w address size)
+reading call.DpcPolicy = tells kind.policies (λ w. dpc-read.policyRead w)
+reading call.DpcCounters = tells kind.counts (λ w. dpc-read.countersRead w)
+reading (call.QueuedDpcs position) = tells kind.plain (λ w. dpc-read.queuedDpcs w position)
+reading call.ActiveDpc = tells kind.dpcs (λ w. dpc-read.activeDpc w)
+reading call.NextDpc = tells kind.dpcs (λ w. dpc-read.nextDpc w)
+
+abbrev pub meaning : Call → Meaning
+meaning (call.Open words p t o d) = opens words (λ w. opened w p t o d)
+meaning (call.CreateThread p) = acts (λ w. thread.created w p)
+meaning (call.Priority id p) = acts (λ w. thread.prioritized w id p)
+meaning (call.InitializeMutex key) = acts (λ w. mutexes.initialized w key)
+meaning (call.InitializeEvent key manual signaled) = acts (λ w. events.initialized w key manual signaled)
+meaning (call.AdoptMutex key owner) = acts (λ w. adopts w key owner)
+meaning (call.ReleaseMutex key) = acts (λ w. mutexes.released w key)
+meaning (call.SetEvent key) = acts (λ w. events.wasSet w key)
+meaning (call.ResetEvent key) = acts (λ w. events.wasReset w key)
+meaning (call.RetireEventBacking base size layout) = acts (λ w. release.eventsRetired w base size layout)
+meaning (call.Wait l all deadline irql) = acts (λ w. waits w l all deadline irql)
+meaning (call.DelayUntil deadline irql) = acts (λ w. wait.delayed w deadline irql)
+meaning call.YieldCurrent = acts (λ w. thread.yielded w)
+meaning (call.Terminate status) = acts (λ w. thread.terminated w status)
+meaning (call.AdvanceTo t) = acts (λ w. time.advanced w t)
+meaning (call.Dispatch n) = dispatches n
+meaning (call.InitializeTimer address a b manual) = acts (λ w. initialize.timerInitialized w address a b manual)
+meaning (call.InitializeDpc address a b routine context) = acts (λ w. initialize.dpcInitialized w address a b routine context)
+meaning (call.SetTimer address due absolute period dpc) = acts (λ w. arm.timerSet w address due absolute period dpc)
+meaning (call.SetTimerSigned address v period dpc) = acts (λ w. arm.timerSetSigned w address v period dpc)
+meaning (call.CancelTimer address) = acts (λ w. arm.timerCancelled w address)
+meaning (call.RetireTimerBacking address size) = acts (λ w. timer-release.timersRetired w address size)
+meaning (call.ConfigureDpcDispatch first second) = acts (λ w. dpcs.configured w first second)
+meaning (call.InsertQueueDpc address first second) = acts (λ w. dpcs.queueInserted w address first second)
+meaning (call.RemoveQueueDpc address) = acts (λ w. dpcs.queueRemoved w address)
+meaning (call.StartDpc address) = starts (λ w. dpcs.workStarted w address)
+meaning (call.ReturnedDpc address n) = acts (λ w. dpcs.workReturned w address n)
+meaning (call.RestoredDpc address n) = acts (λ w. dpcs.workRestored w address n)
+meaning (call.Reads r) = reads (reading r)
+
 -- ---- every call: an `open` of any words; of the others, words out of form are refused with 27
 
-unfoldable pub called : List ℕ → (c : Call) → Result c
-called w (call.Open words p t o d) = opened w p t o d
-called w (call.CreateThread p) = guarded w (thread.created w p)
-called w (call.Priority id p) = guarded w (thread.prioritized w id p)
-called w (call.InitializeMutex key) = guarded w (mutexes.initialized w key)
-called w (call.InitializeEvent key manual signaled) = guarded w (events.initialized w key manual signaled)
-called w (call.AdoptMutex key owner) = guarded w (adopts w key owner)
-called w (call.ReleaseMutex key) = guarded w (mutexes.released w key)
-called w (call.SetEvent key) = guarded w (events.wasSet w key)
-called w (call.ResetEvent key) = guarded w (events.wasReset w key)
-called w (call.RetireEventBacking base size layout) = guarded w (release.eventsRetired w base size layout)
-called w (call.Wait l all deadline irql) = guarded w (waits w l all deadline irql)
-called w (call.DelayUntil deadline irql) = guarded w (wait.delayed w deadline irql)
-called w call.YieldCurrent = guarded w (thread.yielded w)
-called w (call.Terminate status) = guarded w (thread.terminated w status)
-called w (call.AdvanceTo t) = guarded w (time.advanced w t)
-called w (call.Dispatch n) = λ out. guardedDispatch w out
-called w (call.InitializeTimer address a b manual) = guarded w (initialize.timerInitialized w address a b manual)
-called w (call.InitializeDpc address a b routine context) = guarded w (initialize.dpcInitialized w address a b routine context)
-called w (call.SetTimer address due absolute period dpc) = guarded w (arm.timerSet w address due absolute period dpc)
-called w (call.SetTimerSigned address v period dpc) = guarded w (arm.timerSetSigned w address v period dpc)
-called w (call.CancelTimer address) = guarded w (arm.timerCancelled w address)
-called w (call.RetireTimerBacking address size) = guarded w (timer-release.timersRetired w address size)
-called w (call.ConfigureDpcDispatch first second) = guarded w (dpcs.configured w first second)
-called w (call.InsertQueueDpc address first second) = guarded w (dpcs.queueInserted w address first second)
-called w (call.RemoveQueueDpc address) = guarded w (dpcs.queueRemoved w address)
-called w (call.StartDpc address) = guardedStart w (dpcs.workStarted w address)
-called w (call.ReturnedDpc address n) = guarded w (dpcs.workReturned w address n)
-called w (call.RestoredDpc address n) = guarded w (dpcs.workRestored w address n)
-called w (call.Reads r) = readCalled w r
+-- what writes an output gives a function of it
+abbrev pub ReadResult : Reading → Type 0
+ReadResult (tells k f) = Code k
+ReadResult (images n f) = List ℕ → Imaged
+
+abbrev pub Result : Meaning → Type 0
+Result (opens n f) = Outcome
+Result (acts f) = Outcome
+Result (starts f) = Started
+Result (dispatches n) = List ℕ → Dispatched
+Result (reads r) = ReadResult r
+
+abbrev pub runRead : List ℕ → (r : Reading) → ReadResult r
+runRead w (tells k f) = readable w k (f w)
+runRead w (images n f) = λ out. guardedImage w out (f w out)
+
+abbrev pub run : List ℕ → (m : Meaning) → Result m
+run w (opens n f) = f w
+run w (acts f) = guarded w (f w)
+run w (starts f) = guardedStart w (f w)
+run w (dispatches n) = λ out. guardedDispatch w out
+run w (reads r) = runRead w r
+
+unfoldable pub called : List ℕ → (c : Call) → Result (meaning c)
+called w c = run w (meaning c)

@@ -37,28 +37,32 @@ guardedDispatch w out = cond (inForm w) (dispatched w out) (told (Refused 27) w 
 unfoldable pub guardedStart : List ℕ → Started → Started
 guardedStart w s = cond (inForm w) s (startOutcome (work.Refused 27) w)
 
--- ---- reads, by the type of their answer
+-- ---- reads, by the kind of their answer
 
-unfoldable pub readable : List ℕ → Answer → Answer
-readable w a = cond (inForm w) a (Refused 27)
+pub data Kind : Type 0 where
+  plain threads places timers dpcs policies counts : Kind
 
-unfoldable pub timerReadable : List ℕ → TimerAnswer → TimerAnswer
-timerReadable w a = cond (inForm w) a (timer.Refused 27)
+-- the type of the code's answer
+abbrev pub Code : Kind → Type 0
+Code plain = Answer
+Code threads = ThreadAnswer
+Code places = PlaceAnswer
+Code timers = TimerAnswer
+Code dpcs = DpcAnswer
+Code policies = PolicyAnswer
+Code counts = CountersAnswer
 
-unfoldable pub dpcReadable : List ℕ → DpcAnswer → DpcAnswer
-dpcReadable w a = cond (inForm w) a (dpc.Refused 27)
+abbrev pub refusing : (k : Kind) → ℕ → Code k
+refusing plain n = Refused n
+refusing threads n = thread.Refused n
+refusing places n = place.Refused n
+refusing timers n = timer.Refused n
+refusing dpcs n = dpc.Refused n
+refusing policies n = policy.Refused n
+refusing counts n = counters.Refused n
 
-unfoldable pub policyReadable : List ℕ → PolicyAnswer → PolicyAnswer
-policyReadable w a = cond (inForm w) a (policy.Refused 27)
-
-unfoldable pub countersReadable : List ℕ → CountersAnswer → CountersAnswer
-countersReadable w a = cond (inForm w) a (counters.Refused 27)
-
-unfoldable pub threadReadable : List ℕ → ThreadAnswer → ThreadAnswer
-threadReadable w a = cond (inForm w) a (thread.Refused 27)
-
-unfoldable pub placeReadable : List ℕ → PlaceAnswer → PlaceAnswer
-placeReadable w a = cond (inForm w) a (place.Refused 27)
+unfoldable pub readable : List ℕ → (k : Kind) → Code k → Code k
+readable w k a = cond (inForm w) a (refusing k 27)
 
 -- ---- images: an output under 64 bytes is refused as well, and left as it is
 

@@ -18,11 +18,12 @@ use Rattle.model.specs.State.{Named, Status, running, ready, waiting, exited, W
 use Rattle.model.specs.Waits.{noObject}
 use Rattle.model.specs.Reads.{blank}
 use Rattle.model.specs.Answer.{Answer, Refused, None, ThreadIs, ImageIs}
-use Rattle.model.specs.Call.{Call, Read}
-use Rattle.model.specs.Call as call
+use Rattle.model.specs.Call.{Call}
 use Rattle.call_answers.specs.Told.{toldWith, told, toldTimer, toldDpc, toldWork, toldPolicy, toldCounters, toldObject}
 use Rattle.calls.specs.Images.{Imaged}
-use Rattle.calls.specs.Called.{ReadResult, Result, called}
+use Rattle.calls.specs.Guard.{Kind, Code}
+use Rattle.calls.specs.Guard as kind
+use Rattle.calls.specs.Called.{Reading, tells, images, Meaning, opens, acts, starts, dispatches, reads, meaning, ReadResult, Result, called}
 
 -- ---- a thread, as `thread` and `waited_object` read it
 
@@ -79,135 +80,51 @@ imageTold i = toldImage (i .output) (i .answer)
 
 -- ---- what a call answers
 
-abbrev pub readTold : List ℕ → (r : Read) → ReadResult r → Answer
-readTold w call.Current a = told a
-readTold w (call.Thread id) a = toldThread w a
-readTold w (call.Threads position) a = toldThread w a
-readTold w (call.WaitedObject id position) a = toldObject a
-readTold w (call.MutexOwner key) a = told a
-readTold w (call.MutexWaiters key) a = told a
-readTold w (call.EventState key) a = told a
-readTold w (call.EventStates position) a = told a
-readTold w (call.RequireEventRelease base size layout) a = told a
-readTold w (call.TimerAt address) a = toldTimer a
-readTold w (call.DpcAt address) a = toldDpc a
-readTold w (call.Timers position) a = toldTimer a
-readTold w (call.Dpcs position) a = toldDpc a
-readTold w (call.TimerImage address n) a = imageTold (a (blank n))
-readTold w (call.DpcImage address n) a = imageTold (a (blank n))
-readTold w call.TimerInitializations a = told a
-readTold w call.DpcInitializations a = told a
-readTold w (call.TimerReadOverlap address size) a = told a
-readTold w (call.TimerMetadataOverlap address size) a = told a
-readTold w call.PendingTimerDpc a = toldTimer a
-readTold w (call.RequireTimerRelease address size) a = told a
-readTold w call.DpcPolicy a = toldPolicy a
-readTold w call.DpcCounters a = toldCounters a
-readTold w (call.QueuedDpcs position) a = told a
-readTold w call.ActiveDpc a = toldDpc a
-readTold w call.NextDpc a = toldDpc a
+abbrev pub toldAs : List ℕ → (k : Kind) → Code k → Answer
+toldAs w kind.plain a = told a
+toldAs w kind.threads a = toldThread w a
+toldAs w kind.places a = toldObject a
+toldAs w kind.timers a = toldTimer a
+toldAs w kind.dpcs a = toldDpc a
+toldAs w kind.policies a = toldPolicy a
+toldAs w kind.counts a = toldCounters a
 
-abbrev pub answerOf : List ℕ → (c : Call) → Result c → Answer
-answerOf w (call.Open words p t o d) a = told (a .answer)
-answerOf w (call.CreateThread p) a = told (a .answer)
-answerOf w (call.Priority id p) a = told (a .answer)
-answerOf w (call.InitializeMutex key) a = told (a .answer)
-answerOf w (call.InitializeEvent key manual signaled) a = told (a .answer)
-answerOf w (call.AdoptMutex key owner) a = told (a .answer)
-answerOf w (call.ReleaseMutex key) a = told (a .answer)
-answerOf w (call.SetEvent key) a = told (a .answer)
-answerOf w (call.ResetEvent key) a = told (a .answer)
-answerOf w (call.RetireEventBacking base size layout) a = told (a .answer)
-answerOf w (call.Wait l all deadline irql) a = told (a .answer)
-answerOf w (call.DelayUntil deadline irql) a = told (a .answer)
-answerOf w call.YieldCurrent a = told (a .answer)
-answerOf w (call.Terminate status) a = told (a .answer)
-answerOf w (call.AdvanceTo time) a = told (a .answer)
-answerOf w (call.Dispatch n) a = toldWith (a (blank n) .output) (a (blank n) .answer)
-answerOf w (call.InitializeTimer address x b manual) a = told (a .answer)
-answerOf w (call.InitializeDpc address x b routine context) a = told (a .answer)
-answerOf w (call.SetTimer address due absolute period dpc) a = told (a .answer)
-answerOf w (call.SetTimerSigned address v period dpc) a = told (a .answer)
-answerOf w (call.CancelTimer address) a = told (a .answer)
-answerOf w (call.RetireTimerBacking address size) a = told (a .answer)
-answerOf w (call.ConfigureDpcDispatch first second) a = told (a .answer)
-answerOf w (call.InsertQueueDpc address first second) a = told (a .answer)
-answerOf w (call.RemoveQueueDpc address) a = told (a .answer)
-answerOf w (call.StartDpc address) a = toldWork (a .answer)
-answerOf w (call.ReturnedDpc address n) a = told (a .answer)
-answerOf w (call.RestoredDpc address n) a = told (a .answer)
-answerOf w (call.Reads r) a = readTold w r a
+abbrev pub readTold : List ℕ → (r : Reading) → ReadResult r → Answer
+readTold w (tells k f) a = toldAs w k a
+readTold w (images n f) i = imageTold (i (blank n))
+
+abbrev pub answerOf : List ℕ → (m : Meaning) → Result m → Answer
+answerOf w (opens n f) o = told (o .answer)
+answerOf w (acts f) o = told (o .answer)
+answerOf w (starts f) o = toldWork (o .answer)
+answerOf w (dispatches n) o = toldWith (o (blank n) .output) (o (blank n) .answer)
+answerOf w (reads r) a = readTold w r a
 
 -- ---- the words after it: a read leaves them
 
-abbrev pub wordsOf : List ℕ → (c : Call) → Result c → List ℕ
-wordsOf w (call.Open words p t o d) a = a .words
-wordsOf w (call.CreateThread p) a = a .words
-wordsOf w (call.Priority id p) a = a .words
-wordsOf w (call.InitializeMutex key) a = a .words
-wordsOf w (call.InitializeEvent key manual signaled) a = a .words
-wordsOf w (call.AdoptMutex key owner) a = a .words
-wordsOf w (call.ReleaseMutex key) a = a .words
-wordsOf w (call.SetEvent key) a = a .words
-wordsOf w (call.ResetEvent key) a = a .words
-wordsOf w (call.RetireEventBacking base size layout) a = a .words
-wordsOf w (call.Wait l all deadline irql) a = a .words
-wordsOf w (call.DelayUntil deadline irql) a = a .words
-wordsOf w call.YieldCurrent a = a .words
-wordsOf w (call.Terminate status) a = a .words
-wordsOf w (call.AdvanceTo time) a = a .words
-wordsOf w (call.Dispatch n) a = a (blank n) .words
-wordsOf w (call.InitializeTimer address x b manual) a = a .words
-wordsOf w (call.InitializeDpc address x b routine context) a = a .words
-wordsOf w (call.SetTimer address due absolute period dpc) a = a .words
-wordsOf w (call.SetTimerSigned address v period dpc) a = a .words
-wordsOf w (call.CancelTimer address) a = a .words
-wordsOf w (call.RetireTimerBacking address size) a = a .words
-wordsOf w (call.ConfigureDpcDispatch first second) a = a .words
-wordsOf w (call.InsertQueueDpc address first second) a = a .words
-wordsOf w (call.RemoveQueueDpc address) a = a .words
-wordsOf w (call.StartDpc address) a = a .words
-wordsOf w (call.ReturnedDpc address n) a = a .words
-wordsOf w (call.RestoredDpc address n) a = a .words
-wordsOf w (call.Reads r) a = w
+abbrev pub wordsOf : List ℕ → (m : Meaning) → Result m → List ℕ
+wordsOf w (opens n f) o = o .words
+wordsOf w (acts f) o = o .words
+wordsOf w (starts f) o = o .words
+wordsOf w (dispatches n) o = o (blank n) .words
+wordsOf w (reads r) a = w
 
 -- ---- a call
 
 -- what a call answers on the words, and the words after it
 abbrev pub answered : List ℕ → Call → Answer
-answered w c = answerOf w c (called w c)
+answered w c = answerOf w (meaning c) (called w c)
 
 abbrev pub left : List ℕ → Call → List ℕ
-left w c = wordsOf w c (called w c)
+left w c = wordsOf w (meaning c) (called w c)
 
 -- the words lent to an `open` are as many as it says
+abbrev pub LentTo : ℕ → Meaning → Type 0
+LentTo m (opens n f) = n ≡ m
+LentTo m (acts f) = Unit
+LentTo m (starts f) = Unit
+LentTo m (dispatches n) = Unit
+LentTo m (reads r) = Unit
+
 abbrev pub Lent : ℕ → Call → Type 0
-Lent m (call.Open words p t o d) = words ≡ m
-Lent m (call.CreateThread p) = Unit
-Lent m (call.Priority id p) = Unit
-Lent m (call.InitializeMutex key) = Unit
-Lent m (call.InitializeEvent key manual signaled) = Unit
-Lent m (call.AdoptMutex key owner) = Unit
-Lent m (call.ReleaseMutex key) = Unit
-Lent m (call.SetEvent key) = Unit
-Lent m (call.ResetEvent key) = Unit
-Lent m (call.RetireEventBacking base size layout) = Unit
-Lent m (call.Wait l all deadline irql) = Unit
-Lent m (call.DelayUntil deadline irql) = Unit
-Lent m call.YieldCurrent = Unit
-Lent m (call.Terminate status) = Unit
-Lent m (call.AdvanceTo time) = Unit
-Lent m (call.Dispatch n) = Unit
-Lent m (call.InitializeTimer address x b manual) = Unit
-Lent m (call.InitializeDpc address x b routine context) = Unit
-Lent m (call.SetTimer address due absolute period dpc) = Unit
-Lent m (call.SetTimerSigned address v period dpc) = Unit
-Lent m (call.CancelTimer address) = Unit
-Lent m (call.RetireTimerBacking address size) = Unit
-Lent m (call.ConfigureDpcDispatch first second) = Unit
-Lent m (call.InsertQueueDpc address first second) = Unit
-Lent m (call.RemoveQueueDpc address) = Unit
-Lent m (call.StartDpc address) = Unit
-Lent m (call.ReturnedDpc address n) = Unit
-Lent m (call.RestoredDpc address n) = Unit
-Lent m (call.Reads r) = Unit
+Lent m c = LentTo m (meaning c)

@@ -41,7 +41,7 @@ use Rattle.form.specs.Form.{inForm}
 use Rattle.call_answers.specs.Told.{told, toldWith, toldWork}
 use Rattle.calls.specs.Guard.{guarded, guardedDispatch, guardedStart, guardedImage, imageRefused}
 use Rattle.calls.specs.Images.{Imaged, imaged, timerImaged, dpcImaged}
-use Rattle.calls.specs.Called.{called, readCalled}
+use Rattle.calls.specs.Called.{called}
 use Rattle.calls.specs.Run.{answered, left, imageTold}
 use Rattle.model.specs.Reads.{blank}
 use Rattle.model.specs.Call.{Call}
@@ -140,12 +140,12 @@ module _ (w : List ℕ) where
   -- and so does a refused image
   pub refused-timer-image : (address n : ℕ) (out : List ℕ) → isRefused (imageTold (called w (call.Reads (call.TimerImage address n)) out)) ≡ true
       → called w (call.Reads (call.TimerImage address n)) out .output ≡ out
-  unfolding called readCalled guardedImage timerImaged
+  unfolding called guardedImage timerImaged
   refused-timer-image address n out = image-leaves out _ _ (imageRefused w out) (eqb (placeOf w 2 address) 0)
 
   pub refused-dpc-image : (address n : ℕ) (out : List ℕ) → isRefused (imageTold (called w (call.Reads (call.DpcImage address n)) out)) ≡ true
       → called w (call.Reads (call.DpcImage address n)) out .output ≡ out
-  unfolding called readCalled guardedImage dpcImaged
+  unfolding called guardedImage dpcImaged
   refused-dpc-image address n out = image-leaves out _ _ (imageRefused w out) (eqb (numberOf w address) 0)
 
   record StartLeaves (x : Started) : Type 0 where

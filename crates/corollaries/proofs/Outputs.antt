@@ -23,7 +23,7 @@ use Rattle.form.specs.Form.{inForm}
 use Rattle.call_answers.specs.Told.{toldWith}
 use Rattle.calls.specs.Guard.{imageRefused, guardedImage}
 use Rattle.calls.specs.Images.{Imaged, imaged, timerImaged, dpcImaged}
-use Rattle.calls.specs.Called.{readCalled, called}
+use Rattle.calls.specs.Called.{called}
 use Rattle.calls.specs.Run.{answered, left}
 use Rattle.model.specs.Reads.{blank}
 use Rattle.model.specs.Lists.{present}
@@ -111,7 +111,7 @@ module _ (w : List ℕ) (p t o d : ℕ) (calls : List Call) (accepted : openRefu
   -- the image of a timer on an output of 64 bytes or more: the image's size, and the image of the timer that `timer` answers
   pub timer-image : (address : ℕ) (x : Timer) (out : List ℕ) → TimerRead words address x → 64 ≤ length out
       → called words (Reads (TimerImage address (length out))) out ≡ imaged (answer.Count (timerSize (x .architecture))) (timerImage x out)
-  unfolding called readCalled
+  unfolding called
   timer-image address x out e h =
       image-is words out (timerImaged words address out) in-form h
       ∙ timer-imaged words log (agree w p t o d calls accepted proper) address x out
@@ -120,7 +120,7 @@ module _ (w : List ℕ) (p t o d : ℕ) (calls : List Call) (accepted : openRefu
   -- and of a DPC
   pub dpc-image : (address : ℕ) (x : Dpc) (out : List ℕ) → DpcRead words address x → 64 ≤ length out
       → called words (Reads (DpcImage address (length out))) out ≡ imaged (answer.Count (dpcSize (x .architecture))) (dpcImage x out)
-  unfolding called readCalled
+  unfolding called
   dpc-image address x out e h =
       image-is words out (dpcImaged words address out) in-form h
       ∙ dpc-imaged words log (agree w p t o d calls accepted proper) address x out

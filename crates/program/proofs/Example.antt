@@ -13,11 +13,11 @@ use Rattle.model.specs.Waits as waits
 use Rattle.model.specs.Refusal as row
 use Rattle.model.specs.Step.{refusal, effect, step}
 use Rattle.model.specs.Step as does
-use Rattle.runner.specs.Session.{begin}
-use Rattle.program.specs.Script.{meant, whenOpen, whenClosed, logAnswers}
+use Rattle.runner.specs.Session.{asked, begin}
+use Rattle.program.specs.Script.{whenOpen, whenClosed, logAnswers}
 use Rattle.program.specs.Program.{readAll, meanings}
 use Rattle.program.specs.Example.{script, said}
 
 pub example : (st : State) → logAnswers begin st (meanings (readAll (0 ∷ 0 ∷ []) script)) ≡ said
-unfolding script said begin meant whenOpen whenClosed blank grown pieces full wordsOf first others none same allDigits value numberFrom numberOf flagOf oneOf withOne bareLine kindOf itemOf isRead told pairsOf waitCommand withIrql waitFrom withDeadline waitUntil waitLine withFlags flagged eventLine shortLine textLength textLine readLine step refusal effect row.openRefusal row.notPriority row.badLimits does.opened row.eventRefusal row.collides row.isFull row.createRefusal threads.created threads.becomes row.waitRefusal row.badList row.sequenceRefusal does.waited does.blocks does.granted does.timedOut threads.blocked row.dispatchRefusal does.dispatched does.idleAnswer does.counts threads.ran row.signalRefusal does.eventSet waits.wake waits.wakeOne threads.woken row.yieldRefusal threads.yielded
+unfolding script said begin asked whenOpen whenClosed blank grown pieces full wordsOf first others none same allDigits value numberFrom numberOf flagOf oneOf withOne bareLine kindOf itemOf isRead told pairsOf waitCommand withIrql waitFrom withDeadline waitUntil waitLine withFlags flagged eventLine shortLine textLength textLine readLine step refusal effect row.openRefusal row.notPriority row.badLimits does.opened row.eventRefusal row.collides row.isFull row.createRefusal threads.created threads.becomes row.waitRefusal row.badList row.sequenceRefusal does.waited does.blocks does.granted does.timedOut threads.blocked row.dispatchRefusal does.dispatched does.idleAnswer does.counts threads.ran row.signalRefusal does.eventSet waits.wake waits.wakeOne threads.woken row.yieldRefusal threads.yielded
 example st = refl

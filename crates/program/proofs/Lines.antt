@@ -45,7 +45,8 @@ use Rattle.script.proofs.NumberLaws.{within}
 use Rattle.model.specs.Fits.{U64, U64s, U64?, I32, BackingFits}
 use Rattle.calls.specs.Called.{optional}
 use Rattle.model.specs.Call as call
-use Rattle.program.specs.Script.{nothing, calls, MeantFits, meant}
+use Rattle.runner.specs.Session.{nothing, calls, asked}
+use Rattle.program.specs.Script.{AskedFits}
 
 -- ---- what is read of a word is within its limits, or nothing is read
 
@@ -162,14 +163,14 @@ location-ok ws = go (numberOf most (first ws)) (architectureOf (first (others ws
 
 -- whatever numbers stand in the list, the call that the command means has arguments that fit
 record Ok (c : Command) : Type 0 where
-  fits : (l : List ℕ) → U64s l → MeantFits (meant l c)
+  fits : (l : List ℕ) → U64s l → AskedFits (asked l c)
 
 either : (b : Bool) (x y : Command) → Ok x → Ok y → Ok (cond b x y)
 either true x y h k = h
 either false x y h k = k
 
 unread : Ok command.Unread
-unfolding meant
+unfolding asked
 unread = record { fits = λ l u. tt }
 
 alone : (c : Command) (ws : List (List ℕ)) → Ok c → Ok (bareLine c ws)
@@ -209,25 +210,25 @@ three-words f ws h = with-three f (threeOf ws) (three-ok ws) h
 -- ---- single commands
 
 manual-ok : (address : ℕ) (a : Architecture) (b : TimerBacking) → address ≤ most → BackingFits b → (f : Flag) (ws : List (List ℕ)) → Ok (manualOf address a b f ws)
-unfolding manualOf meant
+unfolding manualOf asked
 manual-ok address a b h k (flag.Read manual) ws = alone (command.InitializeTimer address a b manual) ws (record { fits = λ l u. (h, k) })
 manual-ok address a b h k flag.Unread ws = unread
 
 set-ok : (address due : ℕ) → address ≤ most → due ≤ most → (f : Flag) (x : Signed) (y : Number) → SignedOk x → NumberOk most y → Ok (setOf address due f x y)
-unfolding setOf meant
+unfolding setOf asked
 set-ok address due h k (flag.Read absolute) (signed.Read period) (number.Read dpc) p q = record { fits = λ l u. (h, k, p, q) }
 set-ok address due h k (flag.Read absolute) (signed.Read period) number.Unread p q = unread
 set-ok address due h k (flag.Read absolute) signed.Unread y p q = unread
 set-ok address due h k flag.Unread x y p q = unread
 
 new-ok : (utc uptime : ℕ) (x : Signed) (y : Number) → Ok (newOf utc uptime x y)
-unfolding newOf meant
+unfolding newOf asked
 new-ok utc uptime (signed.Read offset) (number.Read mhz) = record { fits = λ l u. tt }
 new-ok utc uptime (signed.Read offset) number.Unread = unread
 new-ok utc uptime signed.Unread y = unread
 
 flags-ok : (key : ℕ) → key ≤ most → (x y : Flag) (ws : List (List ℕ)) → Ok (withFlags key x y ws)
-unfolding withFlags meant
+unfolding withFlags asked
 flags-ok key h (flag.Read manual) (flag.Read signaled) ws = alone (command.Event key manual signaled) ws (record { fits = λ l u. h })
 flags-ok key h (flag.Read manual) flag.Unread ws = unread
 flags-ok key h flag.Unread y ws = unread
@@ -235,7 +236,7 @@ flags-ok key h flag.Unread y ws = unread
 -- ---- DPCs
 
 dpc-work-ok : (ws : List (List ℕ)) → Ok (dpcWorkLine ws)
-unfolding dpcWorkLine meant
+unfolding dpcWorkLine asked
 dpc-work-ok ws =
     either (same (first ws) name.insertQueueDpc) _ _ (three-words command.InsertQueueDpc (others ws) (λ k m n a b c. record { fits = λ l u. (a, b, c) }))
     (either (same (first ws) name.removeQueueDpc) _ _ (one command.RemoveQueueDpc most (others ws) (λ n a. record { fits = λ l u. a }))
@@ -244,13 +245,13 @@ dpc-work-ok ws =
     (either (same (first ws) name.restoredDpc) _ _ (two-words command.RestoredDpc most most (others ws) (λ m n a b. record { fits = λ l u. (a, b) })) unread))))
 
 initialize-dpc-ok : (ws : List (List ℕ)) → Ok (initializeDpcLine ws)
-unfolding initializeDpcLine routineBehind meant
+unfolding initializeDpcLine routineBehind asked
 initialize-dpc-ok ws =
     with-location (λ address a b. routineBehind address a b (behindLocation ws)) (locationOf ws) (location-ok ws)
     (λ address a b h k. two-words (command.InitializeDpc address a b) most most (behindLocation ws) (λ m n p q. record { fits = λ l u. (h, k, p, q) }))
 
 dpc-ok : (ws : List (List ℕ)) → Ok (dpcLine ws)
-unfolding dpcLine meant
+unfolding dpcLine asked
 dpc-ok ws =
     either (same (first ws) name.initializeDpc) _ _ (initialize-dpc-ok (others ws))
     (either (same (first ws) name.dpcInitializations) _ _ (alone command.DpcInitializations (others ws) (record { fits = λ l u. tt }))
@@ -274,7 +275,7 @@ set-timer-ok ws =
     (signed-ok (first (others (others (others ws))))) (one-ok most (others (others (others (others ws)))))))
 
 timer-memory-ok : (ws : List (List ℕ)) → Ok (timerMemoryLine ws)
-unfolding timerMemoryLine meant
+unfolding timerMemoryLine asked
 timer-memory-ok ws =
     either (same (first ws) name.timerReadOverlap) _ _ (two-words command.TimerReadOverlap most most (others ws) (λ m n a b. record { fits = λ l u. tt }))
     (either (same (first ws) name.timerMetadataOverlap) _ _ (two-words command.TimerMetadataOverlap most most (others ws) (λ m n a b. record { fits = λ l u. tt }))
@@ -282,7 +283,7 @@ timer-memory-ok ws =
     (either (same (first ws) name.retireTimerBacking) _ _ (two-words command.RetireTimerBacking most most (others ws) (λ m n a b. record { fits = λ l u. (a, b) })) (dpc-ok ws))))
 
 timer-ok : (ws : List (List ℕ)) → Ok (timerLine ws)
-unfolding timerLine meant
+unfolding timerLine asked
 timer-ok ws =
     either (same (first ws) name.initializeTimer) _ _ (initialize-timer-ok (others ws))
     (either (same (first ws) name.setTimer) _ _ (set-timer-ok (others ws))
@@ -292,7 +293,7 @@ timer-ok ws =
 -- ---- the clock: every number of its calls is as it may be
 
 clock-ok : (ws : List (List ℕ)) → Ok (clockLine ws)
-unfolding clockLine newLine newBehind advanceLine meant
+unfolding clockLine newLine newBehind advanceLine asked
 clock-ok ws =
     either (same (first ws) name.new) _ _
     (with-one _ most (numberOf most (first (others ws))) (number-ok most (first (others ws))) (λ utc h.
@@ -311,7 +312,7 @@ clock-ok ws =
 -- ---- threads, events, mutexes
 
 thread-ok : (ws : List (List ℕ)) → Ok (threadLine ws)
-unfolding threadLine meant
+unfolding threadLine asked
 thread-ok ws =
     either (same (first ws) name.current) _ _ (alone command.Current (others ws) (record { fits = λ l u. tt }))
     (either (same (first ws) name.priority) _ _ (two-words command.Priority most 255 (others ws) (λ m n a b. record { fits = λ l u. (a, omega arith) }))
@@ -321,21 +322,21 @@ thread-ok ws =
     (either (same (first ws) name.clock) _ _ (clock-ok (others ws)) (timer-ok ws))))))
 
 events-ok : (ws : List (List ℕ)) → Ok (eventsLine ws)
-unfolding eventsLine meant
+unfolding eventsLine asked
 events-ok ws =
     either (same (first ws) name.resetEvent) _ _ (one command.ResetEvent most (others ws) (λ n a. record { fits = λ l u. a }))
     (either (same (first ws) name.requireEventRelease) _ _ (three-words command.RequireEventRelease (others ws) (λ k m n a b c. record { fits = λ l u. tt }))
     (either (same (first ws) name.retireEventBacking) _ _ (three-words command.RetireEventBacking (others ws) (λ k m n a b c. record { fits = λ l u. (a, b, c) })) (thread-ok ws)))
 
 adopt-ok : (ws : List (List ℕ)) → Ok (adoptLine ws)
-unfolding adoptLine ownedBy meant
+unfolding adoptLine ownedBy asked
 adopt-ok ws =
     with-one _ most (numberOf most (first ws)) (number-ok most (first ws)) (λ key h.
     either (same (first (others ws)) name.none) _ _ (alone (command.AdoptMutex key false 0) (others (others ws)) (record { fits = λ l u. (h, tt) }))
     (one (λ owner. command.AdoptMutex key true owner) most (others ws) (λ n a. record { fits = λ l u. (h, a) })))
 
 mutex-ok : (ws : List (List ℕ)) → Ok (mutexLine ws)
-unfolding mutexLine meant
+unfolding mutexLine asked
 mutex-ok ws =
     either (same (first ws) name.initializeMutex) _ _ (one command.InitializeMutex most (others ws) (λ n a. record { fits = λ l u. a }))
     (either (same (first ws) name.adoptMutex) _ _ (adopt-ok (others ws))
@@ -350,7 +351,7 @@ event-ok ws =
     flags-ok key h (flagOf (first (others ws))) (flagOf (first (others (others ws)))) (others (others (others ws))))
 
 short-ok : (ws : List (List ℕ)) → Ok (shortLine ws)
-unfolding shortLine meant
+unfolding shortLine asked
 short-ok ws =
     either (same (first ws) name.opens) _ _ (one command.Open 255 (others ws) (λ n a. record { fits = λ l u. (omega arith, omega arith, omega arith, omega arith) }))
     (either (same (first ws) name.event) _ _ (event-ok (others ws))
@@ -417,11 +418,11 @@ module _ (l : List ℕ) (u : U64s l) where
   deadline-fits false deadline h = tt
 
   wait-ok : (all timed : Bool) (deadline irql : ℕ) → deadline ≤ most → irql ≤ 255 → (p : Pairs) → Ok (waitCommand all timed deadline irql p)
-  unfolding waitCommand meant
+  unfolding waitCommand asked
   wait-ok all timed deadline irql h k pairs.Unread = unread
   wait-ok all timed deadline irql h k (pairs.Count n) = record { fits = λ m v. go m v (ltb (length m) n) }
     where
-      go : (m : List ℕ) → U64s m → (b : Bool) → MeantFits (cond b nothing (calls (call.Wait (take n m) all (optional timed deadline) irql)))
+      go : (m : List ℕ) → U64s m → (b : Bool) → AskedFits (cond b nothing (calls (call.Wait (take n m) all (optional timed deadline) irql) tt))
       go m v true = tt
       go m v false = (take-fits n m v, deadline-fits timed deadline h, k)
 
@@ -458,5 +459,5 @@ module _ (l : List ℕ) (u : U64s l) where
   read-ok s = taken-either (ltb 4096 (length s)) _ _ no-wait (text-ok (wordsOf (take (textLength s) s)))
 
   -- what a line is read as fits, and so does the list after it
-  pub read-fits : (s : List ℕ) → MeantFits (meant (readLine s l .list) (readLine s l .command)) × U64s (readLine s l .list)
+  pub read-fits : (s : List ℕ) → AskedFits (asked (readLine s l .list) (readLine s l .command)) × U64s (readLine s l .list)
   read-fits s = let k = read-ok s in (k .command .fits (readLine s l .list) (k .list), k .list)

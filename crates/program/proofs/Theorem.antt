@@ -11,14 +11,14 @@ use Rattle.model.specs.State.{State}
 use Rattle.model.specs.Refusal.{wordsNeeded}
 use Rattle.model.specs.Fits.{U64s}
 use Rattle.runner.specs.Session.{begin}
-use Rattle.program.specs.Script.{MeantFits, logAnswers}
+use Rattle.program.specs.Script.{AskedFits, logAnswers}
 use Rattle.program.specs.Program.{Line, readAll, meaning, meanings, answersTo}
 use Rattle.program.proofs.Script.{program-answers}
 use Rattle.program.proofs.Lines.{read-fits}
 
-all-fit : (bs : List (List ℕ)) (list : List ℕ) → U64s list → (l : Line) → Mem l (readAll list bs) → MeantFits (meaning l)
+all-fit : (bs : List (List ℕ)) (list : List ℕ) → U64s list → (l : Line) → Mem l (readAll list bs) → AskedFits (meaning l)
 all-fit [] list u l m = absurd m
-all-fit (b ∷ bs) list u l (inl e) = subst (λ (x : Line). MeantFits (meaning x)) (sym e) (read-fits list u b .0)
+all-fit (b ∷ bs) list u l (inl e) = subst (λ (x : Line). AskedFits (meaning x)) (sym e) (read-fits list u b .0)
 all-fit (b ∷ bs) list u l (inr m) = all-fit bs (readLine b list .list) (read-fits list u b .1) l m
 
 pub script-answers : (w out list : List ℕ) (script : List (List ℕ)) → length w ≡ wordsNeeded 16 64 64 → length out ≡ 16 → U64s list

@@ -7,8 +7,7 @@ use Rattle.script.specs.Line.{readLine}
 use Rattle.model.specs.Answer.{Answer}
 use Rattle.call_answers.specs.Told.{told, toldWith}
 use Rattle.runner.specs.declared.session.Session.{Session}
-use Rattle.runner.specs.Session.{Performed, performed}
-use Rattle.program.specs.Script.{Meant, nothing, opens, calls, bares, dispatches, creates, moves, tells, meant}
+use Rattle.runner.specs.Session.{Asked, nothing, begins, calls, bares, works, dispatching, creates, moves, asks, asked, Performed, performed}
 
 -- a command, with the list that its kinds and keys stand in
 pub record Line : Type 0 where
@@ -20,23 +19,24 @@ abbrev pub readAll : List ℕ → List (List ℕ) → List Line
 readAll list [] = []
 readAll list (b ∷ bs) = record { list = readLine b list .list; command = readLine b list .command } ∷ readAll (readLine b list .list) bs
 
-abbrev pub meaning : Line → Meant
-meaning l = meant (l .list) (l .command)
+abbrev pub meaning : Line → Asked
+meaning l = asked (l .list) (l .command)
 
-abbrev pub meanings : List Line → List Meant
+abbrev pub meanings : List Line → List Asked
 meanings [] = []
 meanings (l ∷ ls) = meaning l ∷ meanings ls
 
 -- the numbers of a deadlock stand at the head of what the dispatch wrote
-abbrev pub toldIn : Meant → List ℕ → code.Answer → Answer
+abbrev pub toldIn : Asked → List ℕ → code.Answer → Answer
 toldIn nothing out a = told a
-toldIn (opens p) out a = told a
-toldIn (calls c) out a = told a
-toldIn (bares c) out a = told a
-toldIn dispatches out a = toldWith out a
+toldIn (begins p) out a = told a
+toldIn (calls c p) out a = told a
+toldIn (bares c p) out a = told a
+toldIn (works address) out a = told a
+toldIn dispatching out a = toldWith out a
 toldIn (creates made) out a = told a
 toldIn (moves f) out a = told a
-toldIn (tells f) out a = told a
+toldIn (asks f) out a = told a
 
 abbrev pub does : List ℕ → List ℕ → Session → Line → Performed
 does w out s l = performed w out (l .list) s (l .command)

@@ -1,7 +1,7 @@
 -- What a command that a match leaves over asks for.
 use mathlib.Core.Path.{_≡_, refl, ap, _∙_}
 use mathlib.Core.List.{List, [], _∷_}
-use mathlib.Core.Bool.{false}
+use mathlib.Core.Bool.{Bool, cond, true, false}
 use Prim.Native.Nat.{ℕ}
 use types.Run.{OneOf, miss}
 use denote.Enum.Declared.{tagOf}
@@ -14,7 +14,11 @@ use Rattle.script.specs.declared.command.Command.the-variants as command
 use Rattle.script.proofs.command.Command.{the-type}
 use Rattle.runner.specs.declared.session.Session.{Session}
 use Rattle.runner.specs.declared.session.Step.{Step}
-use Rattle.runner.specs.Session.{asked, onWords, goneOn, begun, accepts, answersWith, performedAs, unchanged}
+use lib.Dec.{ltb}
+use lib.ListN.{length}
+use Rattle.model.specs.Call.{Call}
+use Rattle.calls.specs.Called.{meaning}
+use Rattle.runner.specs.Session.{Shown, nothing, calls, asked, onWords, goneOn, begun, accepts, answersWith, performedAs, unchanged}
 
 abbrev no-words-tags : List ℕ
 no-words-tags = 0 ∷ 1 ∷ 5 ∷ 38 ∷ 39 ∷ 40 ∷ 41 ∷ 42 ∷ 43 ∷ 44 ∷ 45 ∷ 46 ∷ 47 ∷ []
@@ -74,6 +78,16 @@ no-words w list command.ClockTsc q = refl
 abbrev no-clock-tags : List ℕ
 no-clock-tags = 0 ∷ 1 ∷ 2 ∷ 3 ∷ 4 ∷ 6 ∷ 7 ∷ 8 ∷ 9 ∷ 10 ∷ 11 ∷ 12 ∷ 13 ∷ 14 ∷ 15 ∷ 16 ∷ 17 ∷ 18 ∷ 19 ∷ 20 ∷ 21 ∷ 22 ∷ 23 ∷ 24 ∷ 25 ∷ 26 ∷ 27 ∷ 28 ∷ 29 ∷ 30 ∷ 31 ∷ 32 ∷ 33 ∷ 34 ∷ 35 ∷ 36 ∷ 37 ∷ []
 
+either-on : (w out : List ℕ) (s : Session) (b : Bool) (c : Call) (p : Shown (meaning c)) → answersWith s out (onWords w (cond b nothing (calls c p))) ≡ goneOn w out s (cond b nothing (calls c p))
+unfolding goneOn
+either-on w out s true c p = refl
+either-on w out s false c p = refl
+
+either-begun : (w out : List ℕ) (s : Session) (b : Bool) (c : Call) (p : Shown (meaning c)) → performedAs (unchanged s (answer.Refused 28)) w out ≡ begun w out s (cond b nothing (calls c p))
+unfolding begun
+either-begun w out s true c p = refl
+either-begun w out s false c p = refl
+
 -- it is no dispatch and asks nothing of the clock
 no-clock : (w out list : List ℕ) (s : Session) (c : Command) → OneOf no-clock-tags (tagOf the-type c) → answersWith s out (onWords w (asked list c)) ≡ goneOn w out s (asked list c)
 unfolding asked goneOn
@@ -81,7 +95,7 @@ no-clock w out list s command.Unread q = refl
 no-clock w out list s (command.Open p) q = refl
 no-clock w out list s (command.Event key manual signaled) q = refl
 no-clock w out list s (command.Create p) q = refl
-no-clock w out list s (command.Wait all timed deadline irql count) q = refl
+no-clock w out list s (command.Wait all timed deadline irql count) q = either-on w out s (ltb (length list) count) _ tt
 no-clock w out list s command.Dispatch q = absurd (miss no-clock-tags 5 tt q)
 no-clock w out list s (command.Set key) q = refl
 no-clock w out list s command.Yield q = refl
@@ -136,7 +150,7 @@ no-open w out list s command.Unread q = refl
 no-open w out list s (command.Open p) q = absurd (miss no-open-tags 1 tt q)
 no-open w out list s (command.Event key manual signaled) q = refl
 no-open w out list s (command.Create p) q = refl
-no-open w out list s (command.Wait all timed deadline irql count) q = refl
+no-open w out list s (command.Wait all timed deadline irql count) q = either-begun w out s (ltb (length list) count) _ tt
 no-open w out list s command.Dispatch q = refl
 no-open w out list s (command.Set key) q = refl
 no-open w out list s command.Yield q = refl

@@ -13,7 +13,7 @@ use Rattle.clock.specs.declared.Created.{Created}
 use Rattle.clock.specs.declared.Created.the-variants as created-as
 use Rattle.clock.specs.declared.Done.{Done}
 use Rattle.clock.specs.declared.Done.the-variants as done
-use Rattle.clock.specs.declared.Reading.{Reading}
+use Rattle.clock.specs.declared.Reading as clock-reading
 use Rattle.clock.specs.declared.Reading.the-variants as reading
 use Rattle.clock.specs.declared.Outcome as clock
 use Rattle.clock.specs.Clock.{created, instruction, advanceMicroseconds, advance100ns, advanceMilliseconds, flushCycles, observe, qpc, tick64, tsc}
@@ -25,8 +25,10 @@ use Rattle.dpc.specs.Work.{Started}
 use Rattle.script.specs.declared.command.Command.{Command}
 use Rattle.script.specs.declared.command.Command.the-variants as command
 use Rattle.script.specs.Print.{bareAnswer}
+use Rattle.model.specs.Call.{Call}
 use Rattle.model.specs.Call as call
-use Rattle.calls.specs.Called.{called, optional}
+use Rattle.calls.specs.Guard as kind
+use Rattle.calls.specs.Called.{Reading, tells, images, Meaning, opens, acts, starts, dispatches, reads, meaning, ReadResult, Result, called, optional}
 use Rattle.runner.specs.declared.session.Session.{Session}
 use Rattle.runner.specs.declared.session.Step.{Step}
 
@@ -49,62 +51,96 @@ begin =
 
 -- ---- which call a command makes
 
+-- a call whose answer has a line, as it is
+abbrev pub ReadShown : Reading → Type 0
+ReadShown (tells kind.plain f) = Unit
+ReadShown (tells kind.threads f) = ⊥
+ReadShown (tells kind.places f) = ⊥
+ReadShown (tells kind.timers f) = ⊥
+ReadShown (tells kind.dpcs f) = ⊥
+ReadShown (tells kind.policies f) = ⊥
+ReadShown (tells kind.counts f) = ⊥
+ReadShown (images n f) = ⊥
+
+abbrev pub Shown : Meaning → Type 0
+Shown (opens n f) = ⊥
+Shown (acts f) = Unit
+Shown (starts f) = ⊥
+Shown (dispatches n) = ⊥
+Shown (reads r) = ReadShown r
+
+abbrev pub readShown : List ℕ → (r : Reading) → ReadShown r → ReadResult r → Outcome
+readShown w (tells kind.plain f) p a = outcome a w
+readShown w (tells kind.threads f) p a = absurd p
+readShown w (tells kind.places f) p a = absurd p
+readShown w (tells kind.timers f) p a = absurd p
+readShown w (tells kind.dpcs f) p a = absurd p
+readShown w (tells kind.policies f) p a = absurd p
+readShown w (tells kind.counts f) p a = absurd p
+readShown w (images n f) p a = absurd p
+
+abbrev pub shown : List ℕ → (m : Meaning) → Shown m → Result m → Outcome
+shown w (opens n f) p o = absurd p
+shown w (acts f) p o = o
+shown w (starts f) p o = absurd p
+shown w (dispatches n) p o = absurd p
+shown w (reads r) p a = readShown w r p a
+
 pub data Asked : Type 0 where
   nothing : Asked  -- the line cannot be read
-  opens : ℕ → Asked  -- an `open` with this priority
-  changes : (List ℕ → Outcome) → Asked  -- a call that may change the scheduler's words
-  reads : (List ℕ → Answer) → Asked  -- one that only reads them
-  starts : ℕ → Asked  -- `start_dpc` of this address
-  dispatches : Asked
+  begins : ℕ → Asked  -- an `open` with this priority
+  calls : (c : Call) → Shown (meaning c) → Asked
+  bares : (c : Call) → Shown (meaning c) → Asked  -- a call whose answer is shown as a number alone
+  works : ℕ → Asked  -- `start_dpc` of this address
+  dispatching : Asked
   creates : Created → Asked  -- `clock new`
   moves : (GuestClock → clock.Outcome) → Asked  -- a call that may change the clock
-  tells : (GuestClock → Reading) → Asked  -- one that only reads it
+  asks : (GuestClock → clock-reading.Reading) → Asked  -- one that only reads it
 
 -- the first `count` numbers of the list are the kinds and keys
-unfoldable pub waited : List ℕ → List ℕ → Bool → Bool → ℕ → ℕ → ℕ → Outcome
-waited w list all timed deadline irql count =
-    cond (ltb (length list) count) (outcome (answer.Refused 28) w) (called w (call.Wait (take count list) all (optional timed deadline) irql))
+abbrev pub waiting : List ℕ → Bool → Bool → ℕ → ℕ → ℕ → Asked
+waiting list all timed deadline irql count = cond (ltb (length list) count) nothing (calls (call.Wait (take count list) all (optional timed deadline) irql) tt)
 
 -- the call of each command; `current` and `mutex_owner` print a bare number
 unfoldable pub asked : List ℕ → Command → Asked
 asked list command.Unread = nothing
-asked list (command.Open p) = opens p
-asked list (command.Event key manual signaled) = changes (λ w. called w (call.InitializeEvent key manual signaled))
-asked list (command.Create p) = changes (λ w. called w (call.CreateThread p))
-asked list (command.Wait all timed deadline irql count) = changes (λ w. waited w list all timed deadline irql count)
-asked list command.Dispatch = dispatches
-asked list (command.Set key) = changes (λ w. called w (call.SetEvent key))
-asked list command.Yield = changes (λ w. called w call.YieldCurrent)
-asked list command.Current = reads (λ w. bareAnswer (called w (call.Reads call.Current)))
-asked list (command.RequireEventRelease base size layout) = reads (λ w. called w (call.Reads (call.RequireEventRelease base size layout)))
-asked list (command.RetireEventBacking base size layout) = changes (λ w. called w (call.RetireEventBacking base size layout))
-asked list (command.MutexOwner key) = reads (λ w. bareAnswer (called w (call.Reads (call.MutexOwner key))))
-asked list (command.AdoptMutex key owned owner) = changes (λ w. called w (call.AdoptMutex key (optional owned owner)))
-asked list (command.MutexWaiters key) = reads (λ w. called w (call.Reads (call.MutexWaiters key)))
-asked list (command.Priority id priority) = changes (λ w. called w (call.Priority id priority))
-asked list (command.InitializeMutex key) = changes (λ w. called w (call.InitializeMutex key))
-asked list (command.DelayUntil deadline irql) = changes (λ w. called w (call.DelayUntil deadline irql))
-asked list (command.AdvanceTo time) = changes (λ w. called w (call.AdvanceTo time))
-asked list (command.ReleaseMutex key) = changes (λ w. called w (call.ReleaseMutex key))
-asked list (command.ResetEvent key) = changes (λ w. called w (call.ResetEvent key))
-asked list (command.Terminate status) = changes (λ w. called w (call.Terminate status))
-asked list command.TimerInitializations = reads (λ w. called w (call.Reads call.TimerInitializations))
-asked list command.DpcInitializations = reads (λ w. called w (call.Reads call.DpcInitializations))
-asked list (command.TimerReadOverlap address size) = reads (λ w. called w (call.Reads (call.TimerReadOverlap address size)))
-asked list (command.TimerMetadataOverlap address size) = reads (λ w. called w (call.Reads (call.TimerMetadataOverlap address size)))
-asked list (command.InitializeTimer address architecture backing manual) = changes (λ w. called w (call.InitializeTimer address architecture backing manual))
-asked list (command.InitializeDpc address architecture backing routine context) = changes (λ w. called w (call.InitializeDpc address architecture backing routine context))
-asked list (command.SetTimer address due absolute period dpc) = changes (λ w. called w (call.SetTimer address due absolute period dpc))
-asked list (command.CancelTimer address) = changes (λ w. called w (call.CancelTimer address))
-asked list (command.RequireTimerRelease address size) = reads (λ w. called w (call.Reads (call.RequireTimerRelease address size)))
-asked list (command.RetireTimerBacking address size) = changes (λ w. called w (call.RetireTimerBacking address size))
-asked list (command.ConfigureDpcDispatch first second) = changes (λ w. called w (call.ConfigureDpcDispatch first second))
-asked list (command.QueuedDpcs position) = reads (λ w. called w (call.Reads (call.QueuedDpcs position)))
-asked list (command.InsertQueueDpc address first second) = changes (λ w. called w (call.InsertQueueDpc address first second))
-asked list (command.RemoveQueueDpc address) = changes (λ w. called w (call.RemoveQueueDpc address))
-asked list (command.StartDpc address) = starts address
-asked list (command.ReturnedDpc address sequence) = changes (λ w. called w (call.ReturnedDpc address sequence))
-asked list (command.RestoredDpc address sequence) = changes (λ w. called w (call.RestoredDpc address sequence))
+asked list (command.Open p) = begins p
+asked list (command.Event key manual signaled) = calls (call.InitializeEvent key manual signaled) tt
+asked list (command.Create p) = calls (call.CreateThread p) tt
+asked list (command.Wait all timed deadline irql count) = waiting list all timed deadline irql count
+asked list command.Dispatch = dispatching
+asked list (command.Set key) = calls (call.SetEvent key) tt
+asked list command.Yield = calls call.YieldCurrent tt
+asked list command.Current = bares (call.Reads call.Current) tt
+asked list (command.RequireEventRelease base size layout) = calls (call.Reads (call.RequireEventRelease base size layout)) tt
+asked list (command.RetireEventBacking base size layout) = calls (call.RetireEventBacking base size layout) tt
+asked list (command.MutexOwner key) = bares (call.Reads (call.MutexOwner key)) tt
+asked list (command.AdoptMutex key owned owner) = calls (call.AdoptMutex key (optional owned owner)) tt
+asked list (command.MutexWaiters key) = calls (call.Reads (call.MutexWaiters key)) tt
+asked list (command.Priority id priority) = calls (call.Priority id priority) tt
+asked list (command.InitializeMutex key) = calls (call.InitializeMutex key) tt
+asked list (command.DelayUntil deadline irql) = calls (call.DelayUntil deadline irql) tt
+asked list (command.AdvanceTo time) = calls (call.AdvanceTo time) tt
+asked list (command.ReleaseMutex key) = calls (call.ReleaseMutex key) tt
+asked list (command.ResetEvent key) = calls (call.ResetEvent key) tt
+asked list (command.Terminate status) = calls (call.Terminate status) tt
+asked list command.TimerInitializations = calls (call.Reads call.TimerInitializations) tt
+asked list command.DpcInitializations = calls (call.Reads call.DpcInitializations) tt
+asked list (command.TimerReadOverlap address size) = calls (call.Reads (call.TimerReadOverlap address size)) tt
+asked list (command.TimerMetadataOverlap address size) = calls (call.Reads (call.TimerMetadataOverlap address size)) tt
+asked list (command.InitializeTimer address architecture backing manual) = calls (call.InitializeTimer address architecture backing manual) tt
+asked list (command.InitializeDpc address architecture backing routine context) = calls (call.InitializeDpc address architecture backing routine context) tt
+asked list (command.SetTimer address due absolute period dpc) = calls (call.SetTimer address due absolute period dpc) tt
+asked list (command.CancelTimer address) = calls (call.CancelTimer address) tt
+asked list (command.RequireTimerRelease address size) = calls (call.Reads (call.RequireTimerRelease address size)) tt
+asked list (command.RetireTimerBacking address size) = calls (call.RetireTimerBacking address size) tt
+asked list (command.ConfigureDpcDispatch first second) = calls (call.ConfigureDpcDispatch first second) tt
+asked list (command.QueuedDpcs position) = calls (call.Reads (call.QueuedDpcs position)) tt
+asked list (command.InsertQueueDpc address first second) = calls (call.InsertQueueDpc address first second) tt
+asked list (command.RemoveQueueDpc address) = calls (call.RemoveQueueDpc address) tt
+asked list (command.StartDpc address) = works address
+asked list (command.ReturnedDpc address sequence) = calls (call.ReturnedDpc address sequence) tt
+asked list (command.RestoredDpc address sequence) = calls (call.RestoredDpc address sequence) tt
 asked list (command.ClockNew utc uptime offset mhz) = creates (created utc uptime offset mhz)
 asked list command.ClockInstruction = moves instruction
 asked list (command.ClockAdvanceMicroseconds n) = moves (λ (c : GuestClock). advanceMicroseconds c n)
@@ -112,9 +148,9 @@ asked list (command.ClockAdvance100ns n) = moves (λ (c : GuestClock). advance10
 asked list (command.ClockAdvanceMilliseconds n) = moves (λ (c : GuestClock). advanceMilliseconds c n)
 asked list command.ClockFlushCycles = moves flushCycles
 asked list command.ClockObserve = moves observe
-asked list command.ClockQpc = tells qpc
-asked list command.ClockTick64 = tells tick64
-asked list command.ClockTsc = tells tsc
+asked list command.ClockQpc = asks qpc
+asked list command.ClockTick64 = asks tick64
+asked list command.ClockTsc = asks tsc
 
 -- ---- a clock
 
@@ -125,7 +161,7 @@ unfoldable pub doneAnswer : Done → Answer
 doneAnswer done.Ok = answer.Done
 doneAnswer (done.Err why) = answer.Refused (errorNumber why)
 
-unfoldable pub readingAnswer : Reading → Answer
+unfoldable pub readingAnswer : clock-reading.Reading → Answer
 readingAnswer (reading.Ok n) = answer.Count n
 readingAnswer (reading.Err why) = answer.Refused (errorNumber why)
 
@@ -140,7 +176,7 @@ moved s o =
     cond (s .timed) (record { answer = doneAnswer (o .answer); session = record { opened = s .opened; timed = s .timed; clock = o .clock } })
     (unchanged s (answer.Refused 28))
 
-unfoldable pub told : Session → Reading → Step
+unfoldable pub told : Session → clock-reading.Reading → Step
 told s r = unchanged s (cond (s .timed) (readingAnswer r) (answer.Refused 28))
 
 -- ---- a bench
@@ -161,14 +197,18 @@ performedAs step w out = record { step = step; words = w; waiting = out }
 -- what is asked of the scheduler's words, but for a dispatch; else 28
 unfoldable pub onWords : List ℕ → Asked → Outcome
 onWords w nothing = outcome (answer.Refused 28) w
-onWords w (opens p) = outcome (answer.Refused 28) w
-onWords w (changes f) = f w
-onWords w (reads f) = outcome (f w) w
-onWords w (starts address) = let o : Started = called w (call.StartDpc address) in outcome (sequenceOf (o .answer)) (o .words)
-onWords w dispatches = outcome (answer.Refused 28) w
+onWords w (begins p) = outcome (answer.Refused 28) w
+onWords w (calls c p) = shown w (meaning c) p (called w c)
+onWords w (bares c p) = let o = shown w (meaning c) p (called w c) in outcome (bareAnswer (o .answer)) (o .words)
+onWords w (works address) = let o : Started = called w (call.StartDpc address) in outcome (sequenceOf (o .answer)) (o .words)
+onWords w dispatching = outcome (answer.Refused 28) w
 onWords w (creates made) = outcome (answer.Refused 28) w
 onWords w (moves f) = outcome (answer.Refused 28) w
-onWords w (tells f) = outcome (answer.Refused 28) w
+onWords w (asks f) = outcome (answer.Refused 28) w
+
+-- a wait
+unfoldable pub waited : List ℕ → List ℕ → Bool → Bool → ℕ → ℕ → ℕ → Outcome
+waited w list all timed deadline irql count = onWords w (waiting list all timed deadline irql count)
 
 abbrev pub answersWith : Session → List ℕ → Outcome → Performed
 answersWith s out o = performedAs (unchanged s (o .answer)) (o .words) out
@@ -176,15 +216,15 @@ answersWith s out o = performedAs (unchanged s (o .answer)) (o .words) out
 -- after an `open` has succeeded: another gives 28
 unfoldable pub goneOn : List ℕ → List ℕ → Session → Asked → Performed
 goneOn w out s nothing = answersWith s out (onWords w nothing)
-goneOn w out s (opens p) = answersWith s out (onWords w (opens p))
-goneOn w out s (changes f) = answersWith s out (onWords w (changes f))
-goneOn w out s (reads f) = answersWith s out (onWords w (reads f))
-goneOn w out s (starts address) = answersWith s out (onWords w (starts address))
-goneOn w out s dispatches =
+goneOn w out s (begins p) = answersWith s out (onWords w (begins p))
+goneOn w out s (calls c p) = answersWith s out (onWords w (calls c p))
+goneOn w out s (bares c p) = answersWith s out (onWords w (bares c p))
+goneOn w out s (works address) = answersWith s out (onWords w (works address))
+goneOn w out s dispatching =
     let o : Dispatched = called w (call.Dispatch (length out)) out in performedAs (unchanged s (o .answer)) (o .words) (o .output)
 goneOn w out s (creates made) = performedAs (newClock s made) w out
 goneOn w out s (moves f) = performedAs (moved s (f (s .clock))) w out
-goneOn w out s (tells f) = performedAs (told s (f (s .clock))) w out
+goneOn w out s (asks f) = performedAs (told s (f (s .clock))) w out
 
 -- whether an `open` has succeeded, by its answer
 unfoldable pub accepts : Answer → Bool
@@ -213,14 +253,14 @@ openedBy s a = record { answer = a; session = record { opened = accepts a; timed
 -- 28 for a line before an `open` has succeeded, but for an `open`
 unfoldable pub begun : List ℕ → List ℕ → Session → Asked → Performed
 begun w out s nothing = performedAs (unchanged s (answer.Refused 28)) w out
-begun w out s (opens p) = performedAs (openedBy s (opensWith w p .answer)) (opensWith w p .words) out
-begun w out s (changes f) = performedAs (unchanged s (answer.Refused 28)) w out
-begun w out s (reads f) = performedAs (unchanged s (answer.Refused 28)) w out
-begun w out s (starts address) = performedAs (unchanged s (answer.Refused 28)) w out
-begun w out s dispatches = performedAs (unchanged s (answer.Refused 28)) w out
+begun w out s (begins p) = performedAs (openedBy s (opensWith w p .answer)) (opensWith w p .words) out
+begun w out s (calls c p) = performedAs (unchanged s (answer.Refused 28)) w out
+begun w out s (bares c p) = performedAs (unchanged s (answer.Refused 28)) w out
+begun w out s (works address) = performedAs (unchanged s (answer.Refused 28)) w out
+begun w out s dispatching = performedAs (unchanged s (answer.Refused 28)) w out
 begun w out s (creates made) = performedAs (unchanged s (answer.Refused 28)) w out
 begun w out s (moves f) = performedAs (unchanged s (answer.Refused 28)) w out
-begun w out s (tells f) = performedAs (unchanged s (answer.Refused 28)) w out
+begun w out s (asks f) = performedAs (unchanged s (answer.Refused 28)) w out
 
 -- what a command does
 unfoldable pub performed : List ℕ → List ℕ → List ℕ → Session → Command → Performed

@@ -1,6 +1,6 @@
 use mathlib.Core.Path.{_∙_, sym}
 use Rattle.calls.specs.Guard.{guardedImage}
-use Rattle.calls.specs.Called.{called, readCalled}
+use Rattle.calls.specs.Called.{called}
 use borrow.Author.Needs.{needs}
 use Rattle.scheduler_images.proofs.dpc_image.Statement.{statement}
 use Rattle.scheduler_images.proofs.dpc_image.Tie as tie
@@ -12,7 +12,7 @@ same-length : tie.Need-same-length
 same-length c = search needs
 
 returns : tie.Need-returns
-unfolding called readCalled guardedImage
+unfolding called guardedImage
 returns c = simp (sym (c .before .is-refused .ensures) ∙ c .if1 .taken)
 
 put-dpc-requires : tie.Need-put-dpc-requires
@@ -22,7 +22,7 @@ same-length-2 : tie.Need-same-length-2
 same-length-2 c = search needs
 
 returns-2 : tie.Need-returns-2
-unfolding called readCalled guardedImage
+unfolding called guardedImage
 returns-2 c = simp (sym (c .before .before .before .before .before .is-refused .ensures) ∙ c .before .before .before .before .if1 .left) (cc)
 
 pub dpc-image-spec : {M : Type 1} → statement M

@@ -2,7 +2,7 @@ use mir.Syntax.{w32}
 use mir.Val.{SFits}
 use mir.Facts.{toZ-ofZ}
 use Rattle.runner.proofs.CommandLaws.{no-words}
-use Rattle.runner.specs.Session.{asked, onWords}
+use Rattle.runner.specs.Session.{asked, onWords, waited}
 use borrow.Author.Needs.{needs}
 use Rattle.runner.proofs.session.on_words.Statement.{statement}
 use Rattle.runner.proofs.session.on_words.Tie as tie
@@ -362,7 +362,7 @@ same-length-3 c = search needs
 
 -- src/session.rt:174:1
 returns-3 : tie.Need-returns-3
-unfolding asked onWords
+unfolding asked waited
 returns-3 c = simp (c .before .before .before .before .before .c3 .given .1) (c .before .before .wait .ensures)
 
 -- src/session.rt:174:1

@@ -1,7 +1,7 @@
 use borrow.Author.Tests.{lt-ltb, le-ltb}
 use lib.ListN.{length-take}
 use native.Mathlib.Omega.{arith}
-use Rattle.runner.specs.Session.{waited}
+use Rattle.runner.specs.Session.{waited, onWords}
 use borrow.Author.Needs.{needs}
 use Rattle.runner.proofs.session.wait.Statement.{statement}
 use Rattle.runner.proofs.session.wait.Tie as tie
@@ -11,7 +11,7 @@ use Rattle.scheduler.proofs.changes.wait.Reads as wait-reads
 
 -- src/session.rt:168:9
 returns : tie.Need-returns
-unfolding waited
+unfolding waited onWords
 returns c = simp (lt-ltb _ _ (c .if1 .taken))
 
 -- src/session.rt:170:22
@@ -28,7 +28,7 @@ same-length c = search needs
 
 -- src/session.rt:156:1
 returns-2 : tie.Need-returns-2
-unfolding waited
+unfolding waited onWords
 returns-2 c = simp (le-ltb _ _ (c .before .before .before .before .before .if1 .left)) (c .before .before .wait .ensures)
 
 pub wait-spec : {M : Type 1} → statement M

@@ -1,7 +1,7 @@
 use mathlib.Core.Path.{_∙_, sym}
 use borrow.Author.Tests.{not-true, not-false}
-use Rattle.calls.specs.Guard.{dpcReadable}
-use Rattle.calls.specs.Called.{called, readCalled}
+use Rattle.calls.specs.Guard.{readable}
+use Rattle.calls.specs.Called.{called}
 use borrow.Author.Needs.{needs}
 use Rattle.scheduler.proofs.dpc_calls.dpcs.Statement.{statement}
 use Rattle.scheduler.proofs.dpc_calls.dpcs.Tie as tie
@@ -10,14 +10,14 @@ in-form-requires : tie.Need-in-form-requires
 in-form-requires c κs = search needs
 
 returns : tie.Need-returns
-unfolding called readCalled dpcReadable
+unfolding called readable
 returns c = simp (sym (c .before .in-form .ensures) ∙ not-true _ (c .if1 .taken))
 
 dpcs-at-requires : tie.Need-dpcs-at-requires
 dpcs-at-requires c κs = search needs
 
 returns-2 : tie.Need-returns-2
-unfolding called readCalled dpcReadable
+unfolding called readable
 returns-2 c = simp (sym (c .before .before .in-form .ensures) ∙ not-false _ (c .before .if1 .left)) (cc)
 
 pub dpcs-spec : {M : Type 1} → statement M
