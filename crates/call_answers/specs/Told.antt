@@ -6,8 +6,8 @@ use Rattle.answers.specs.declared.Answer as code
 use Rattle.answers.specs.declared.Answer.the-variants as answer
 use Rattle.dispatcher.specs.declared.read.PlaceAnswer as code-object
 use Rattle.dispatcher.specs.declared.read.PlaceAnswer.the-variants as object
-use Rattle.dpc.specs.declared.work.WorkAnswer as code-work
-use Rattle.dpc.specs.declared.work.WorkAnswer.the-variants as work
+use Rattle.dpc_work.specs.declared.WorkAnswer as code-work
+use Rattle.dpc_work.specs.declared.WorkAnswer.the-variants as work
 use Rattle.dpc_reads.specs.declared.DpcAnswer as code-dpc
 use Rattle.dpc_reads.specs.declared.DpcAnswer.the-variants as dpc
 use Rattle.dpc_reads.specs.declared.PolicyAnswer as code-policy

@@ -6,10 +6,10 @@ use mathlib.Core.Bool.{Bool, true, false, cond}
 use mathlib.Core.Option.{Option, none, some}
 use Rattle.answers.specs.Outcome.{Outcome}
 use Rattle.opening.specs.Open.{opened}
-use Rattle.kernel.specs.Thread as thread
-use Rattle.sync.specs.Mutexes as mutexes
+use Rattle.threading.specs.Thread as thread
+use Rattle.mutexes.specs.Mutexes as mutexes
 use Rattle.events.specs.Events as events
-use Rattle.sync.specs.Release as release
+use Rattle.event_release.specs.Release as release
 use Rattle.waiting.specs.Wait as wait
 use Rattle.advancing.specs.Advance as time
 use Rattle.dispatcher.specs.Dispatch.{Dispatched}
@@ -18,8 +18,8 @@ use Rattle.timers.specs.Initialize as initialize
 use Rattle.arming.specs.Arm as arm
 use Rattle.timers.specs.Release as timer-release
 use Rattle.timers.specs.Reads as timer-read
-use Rattle.dpc.specs.Work as dpcs
-use Rattle.dpc.specs.Work.{Started}
+use Rattle.dpc_work.specs.Work as dpcs
+use Rattle.dpc_work.specs.Work.{Started}
 use Rattle.dpc_reads.specs.Reads as dpc-read
 use Rattle.model.specs.Call.{Call, Read}
 use Rattle.model.specs.Call as call

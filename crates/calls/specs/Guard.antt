@@ -13,8 +13,8 @@ use Rattle.dispatcher.specs.declared.read.ThreadAnswer.{ThreadAnswer}
 use Rattle.dispatcher.specs.declared.read.ThreadAnswer.the-variants as thread
 use Rattle.dispatcher.specs.declared.read.PlaceAnswer.{PlaceAnswer}
 use Rattle.dispatcher.specs.declared.read.PlaceAnswer.the-variants as place
-use Rattle.dpc.specs.Work.{Started, startOutcome}
-use Rattle.dpc.specs.declared.work.WorkAnswer.the-variants as work
+use Rattle.dpc_work.specs.Work.{Started, startOutcome}
+use Rattle.dpc_work.specs.declared.WorkAnswer.the-variants as work
 use Rattle.dpc_reads.specs.declared.DpcAnswer.{DpcAnswer}
 use Rattle.dpc_reads.specs.declared.DpcAnswer.the-variants as dpc
 use Rattle.dpc_reads.specs.declared.PolicyAnswer.{PolicyAnswer}

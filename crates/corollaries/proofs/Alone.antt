@@ -14,9 +14,9 @@ use Rattle.model.specs.Call.{SetEvent}
 use Rattle.model.specs.Step.{step}
 use Rattle.model.proofs.ListLaws.{not-both}
 use Rattle.model.proofs.TableLaws.{none-some}
-use Rattle.history_wakes.proofs.SetEvent.{woken-or-taken, after-is}
-use Rattle.history_wakes.proofs.Granted as midst
-use Rattle.history_wakes.proofs.Granted.{eventNamed, Got}
+use Rattle.agreement_wakes.proofs.SetEvent.{woken-or-taken, after-is}
+use Rattle.agreement_wakes.proofs.Granted as midst
+use Rattle.agreement_wakes.proofs.Granted.{eventNamed, Got}
 
 module _ (s : State) (v : Valid s) (key : ℕ) (e : Event) (f : eventAt (s .dispatcher .objects) key ≡ some e)
     (i : ℕ) (x : Wait) (was : statusOf (s .dispatcher) i ≡ waiting x) (lone : x .objects ≡ eventNamed key ∷ []) where

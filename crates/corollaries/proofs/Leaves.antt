@@ -15,10 +15,10 @@ use Rattle.words.specs.Word.{topBit}
 use Rattle.objects.specs.Objects.{placeOf}
 use Rattle.images.specs.declared.DpcWork.{DpcWork}
 use Rattle.opening.specs.Open.{openRefusal, opened}
-use Rattle.kernel.specs.Thread as thread
-use Rattle.sync.specs.Mutexes as mutexes
+use Rattle.threading.specs.Thread as thread
+use Rattle.mutexes.specs.Mutexes as mutexes
 use Rattle.events.specs.Events as events
-use Rattle.sync.specs.Release as release
+use Rattle.event_release.specs.Release as release
 use Rattle.threads.specs.declared.Wait.{Wait}
 use Rattle.waits.specs.Lists.{metIn}
 use Rattle.waiting.specs.Wait as wait
@@ -34,9 +34,9 @@ use Rattle.arming.specs.Arm as arm
 use Rattle.timers.specs.Release as timer-release
 use Rattle.dpcs.specs.Record.{numberOf}
 use Rattle.dpc_queue.specs.Queue.{queued}
-use Rattle.dpc.specs.Work as dpcs
-use Rattle.dpc.specs.Work.{Started}
-use Rattle.dpc.specs.declared.work.WorkAnswer.the-variants as work
+use Rattle.dpc_work.specs.Work as dpcs
+use Rattle.dpc_work.specs.Work.{Started}
+use Rattle.dpc_work.specs.declared.WorkAnswer.the-variants as work
 use Rattle.form.specs.Form.{inForm}
 use Rattle.call_answers.specs.Told.{told, toldWith, toldWork}
 use Rattle.calls.specs.Guard.{guarded, guardedDispatch, guardedStart, guardedImage, imageRefused}

@@ -14,10 +14,10 @@ use Rattle.model.specs.Fits.{Fits, Numbers}
 use Rattle.model.proofs.StepLaws.{valid-opened, valid-step}
 use Rattle.model.proofs.FitsLaws.{numbers-opened, numbers-after, numbers-step}
 use Rattle.model.proofs.WdkLaws.{step-is}
-use Rattle.history.specs.Agree.{Agree}
-use Rattle.history.specs.Matches.{Matches}
-use Rattle.history_lengths.proofs.Calls.{keeps-length}
-use Rattle.history_calls.proofs.Calls.{matches}
+use Rattle.agreement.specs.Agree.{Agree}
+use Rattle.agreement.specs.Matches.{Matches}
+use Rattle.agreement_lengths.proofs.Calls.{keeps-length}
+use Rattle.agreement_calls.proofs.Calls.{matches}
 use Rattle.theorem.specs.History.{wordsAfter, Proper}
 use Rattle.theorem.specs.Theorem.{logged, end}
 use Rattle.theorem.proofs.Theorem.{theorem}

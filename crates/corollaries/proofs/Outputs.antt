@@ -33,13 +33,13 @@ use Rattle.model.specs.Dpcs.{dpcAt}
 use Rattle.model.specs.Refusal.{openRefusal}
 use Rattle.model.specs.Call.{Call, Dispatch, Reads, TimerImage, DpcImage}
 use Rattle.model.specs.Call as call
-use Rattle.history.specs.Agree.{Agree}
-use Rattle.history.proofs.Records.{timer-read}
-use Rattle.history.proofs.Lookups.{object-row}
-use Rattle.history_timers.proofs.Found.{timer-object, timer-known, timer-place}
-use Rattle.history_dpc.proofs.Found.{number-known, dpc-whole}
-use Rattle.history_threads.proofs.Dispatch.{agree-dispatch}
-use Rattle.history_calls.proofs.Guards.{dispatch-is}
+use Rattle.agreement.specs.Agree.{Agree}
+use Rattle.agreement.proofs.Records.{timer-read}
+use Rattle.agreement.proofs.Lookups.{object-row}
+use Rattle.agreement_timers.proofs.Found.{timer-object, timer-known, timer-place}
+use Rattle.agreement_dpc.proofs.Found.{number-known, dpc-whole}
+use Rattle.agreement_threads.proofs.Dispatch.{agree-dispatch}
+use Rattle.agreement_calls.proofs.Guards.{dispatch-is}
 use Rattle.theorem.specs.History.{Proper}
 use Rattle.theorem.specs.Theorem.{logged, end}
 use Rattle.theorem.proofs.Theorem.{theorem}

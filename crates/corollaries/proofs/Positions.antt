@@ -10,7 +10,7 @@ use lib.ListN.{length}
 use Rattle.model.specs.Lists.{Mem, Before, Distinct, countOf, firstOf, nth}
 use Rattle.model.specs.Valid.{RisingBy}
 use Rattle.model.proofs.TableLaws.{some-same, none-some}
-use Rattle.history_tables.proofs.Lists.{nth-mem}
+use Rattle.agreement_tables.proofs.Lists.{nth-mem}
 
 pub mem-nth : (l : List ℕ) (x : ℕ) → Mem x l → (n : ℕ) × (nth l n ≡ some x)
 mem-nth [] x m = absurd m

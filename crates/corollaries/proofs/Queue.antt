@@ -24,7 +24,7 @@ use Rattle.model.proofs.ListLaws.{mem-member}
 use Rattle.model.proofs.TableLaws.{found}
 use Rattle.model.proofs.DpcLaws.{queued-work, phase-found, phase-known}
 use Rattle.model.proofs.NeverLaws.{queued-in-queue}
-use Rattle.history_tables.proofs.Lists.{nth-mem}
+use Rattle.agreement_tables.proofs.Lists.{nth-mem}
 use Rattle.theorem.specs.History.{Proper}
 use Rattle.theorem.specs.Theorem.{logged, end}
 use Rattle.theorem.proofs.Theorem.{theorem}

@@ -14,7 +14,7 @@ use Rattle.model.specs.Refusal.{openRefusal}
 use Rattle.model.specs.Step.{refusal, effect}
 use Rattle.model.specs.Fits.{Fits}
 use Rattle.model.proofs.ListLaws.{not-both}
-use Rattle.history.proofs.Matches.{step-refused}
+use Rattle.agreement.proofs.Matches.{step-refused}
 use Rattle.theorem.specs.History.{Proper}
 use Rattle.theorem.specs.Theorem.{logged, end}
 use Rattle.corollaries.specs.Refusals.{isRefused, Short}

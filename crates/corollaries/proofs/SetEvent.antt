@@ -21,9 +21,9 @@ use Rattle.model.specs.Step.{step}
 use Rattle.model.proofs.ListLaws.{not-both}
 use Rattle.model.proofs.ThreadLaws.{stands-somewhere}
 use Rattle.model.proofs.SoundLaws.{is-thread}
-use Rattle.history_tables.proofs.Lists.{nth-mem}
-use Rattle.history_wakes.proofs.Granted.{Got}
-use Rattle.history_wakes.proofs.SetEvent as wakes
+use Rattle.agreement_tables.proofs.Lists.{nth-mem}
+use Rattle.agreement_wakes.proofs.Granted.{Got}
+use Rattle.agreement_wakes.proofs.SetEvent as wakes
 use Rattle.theorem.specs.History.{Proper}
 use Rattle.theorem.specs.Theorem.{logged, end}
 use Rattle.corollaries.specs.Reads.{ThreadRead, EventRead}

@@ -6,8 +6,8 @@ use lib.ListN.{length}
 use borrow.Author.Tests.{lt-ltb, le-ltb}
 use Rattle.answers.specs.declared.Answer.{Answer}
 use Rattle.timers.specs.declared.TimerAnswer.{TimerAnswer}
-use Rattle.dpc.specs.Work.{Started, startOutcome}
-use Rattle.dpc.specs.declared.work.WorkAnswer.{WorkAnswer}
+use Rattle.dpc_work.specs.Work.{Started, startOutcome}
+use Rattle.dpc_work.specs.declared.WorkAnswer.{WorkAnswer}
 use Rattle.dpc_reads.specs.declared.DpcAnswer.{DpcAnswer}
 use Rattle.dpc_reads.specs.declared.PolicyAnswer.{PolicyAnswer}
 use Rattle.dpc_reads.specs.declared.CountersAnswer.{CountersAnswer}

@@ -23,8 +23,8 @@ use Rattle.dpc_reads.specs.declared.PolicyAnswer.the-variants as policy
 use Rattle.dpc_reads.specs.declared.DpcCounters.{DpcCounters}
 use Rattle.dpc_reads.specs.declared.CountersAnswer.{CountersAnswer}
 use Rattle.dpc_reads.specs.declared.CountersAnswer.the-variants as counters
-use Rattle.dpc.specs.declared.work.WorkAnswer.{WorkAnswer}
-use Rattle.dpc.specs.declared.work.WorkAnswer.the-variants as work
+use Rattle.dpc_work.specs.declared.WorkAnswer.{WorkAnswer}
+use Rattle.dpc_work.specs.declared.WorkAnswer.the-variants as work
 use Rattle.dispatcher.specs.declared.read.ThreadView.{ThreadView}
 use Rattle.dispatcher.specs.declared.read.ThreadAnswer.{ThreadAnswer}
 use Rattle.dispatcher.specs.declared.read.ThreadAnswer.the-variants as thread

@@ -5,7 +5,7 @@ use mathlib.Core.List.{List}
 use lib.ListN.{length}
 use lib.Dec.{ltb}
 use Rattle.timers.specs.declared.TimerAnswer.{TimerAnswer}
-use Rattle.dpc.specs.Work.{Started}
+use Rattle.dpc_work.specs.Work.{Started}
 use Rattle.dpc_reads.specs.declared.DpcAnswer.{DpcAnswer}
 use Rattle.dpc_reads.specs.declared.PolicyAnswer.{PolicyAnswer}
 use Rattle.dpc_reads.specs.declared.CountersAnswer.{CountersAnswer}

@@ -17,8 +17,8 @@ use Rattle.clock.specs.declared.Created.{Created}
 use Rattle.clock.specs.declared.Created.the-variants as created-as
 use Rattle.clock.specs.declared.Reading as clock-reading
 use Rattle.clock.specs.declared.Outcome as clock
-use Rattle.dpc.specs.declared.work.WorkAnswer.{WorkAnswer}
-use Rattle.dpc.specs.declared.work.WorkAnswer.the-variants as work
+use Rattle.dpc_work.specs.declared.WorkAnswer.{WorkAnswer}
+use Rattle.dpc_work.specs.declared.WorkAnswer.the-variants as work
 use Rattle.words.specs.Layout as at
 use Rattle.words.specs.Word.{topBit}
 use Rattle.threads.specs.Thread.{threadCount}
@@ -46,16 +46,16 @@ use Rattle.call_answers.specs.Told.{told, toldWork}
 use Rattle.calls.specs.Guard as kind
 use Rattle.calls.specs.Called.{Reading, tells, images, Meaning, opens, acts, starts, dispatches, reads, meaning, ReadResult, Result, called}
 use Rattle.calls.specs.Run.{answered, left, answerOf, readTold, wordsOf, LentTo, Lent}
-use Rattle.history.specs.Agree.{Agree}
-use Rattle.history_lengths.proofs.Calls.{keeps-length}
-use Rattle.history_lengths.proofs.Dispatcher.{length-dispatched}
-use Rattle.history_form.proofs.Passes.{passes}
-use Rattle.history.proofs.Matches.{step-refused}
-use Rattle.history_threads.proofs.Open as words-open
-use Rattle.history_threads.proofs.Open.{open-refusal}
-use Rattle.history_threads.proofs.Dispatch.{agree-dispatch}
-use Rattle.history_calls.proofs.Guards.{dispatch-is}
-use Rattle.history_calls.proofs.Calls.{matches}
+use Rattle.agreement.specs.Agree.{Agree}
+use Rattle.agreement_lengths.proofs.Calls.{keeps-length}
+use Rattle.agreement_lengths.proofs.Dispatcher.{length-dispatched}
+use Rattle.agreement_form.proofs.Passes.{passes}
+use Rattle.agreement.proofs.Matches.{step-refused}
+use Rattle.agreement_threads.proofs.Open as words-open
+use Rattle.agreement_threads.proofs.Open.{open-refusal}
+use Rattle.agreement_threads.proofs.Dispatch.{agree-dispatch}
+use Rattle.agreement_calls.proofs.Guards.{dispatch-is}
+use Rattle.agreement_calls.proofs.Calls.{matches}
 use Rattle.runner.specs.declared.session.Session.{Session}
 use Rattle.runner.specs.declared.session.Step.{Step}
 use Rattle.runner.specs.Session as program

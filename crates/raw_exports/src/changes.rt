@@ -1,9 +1,9 @@
 // Threads, mutexes, events, waits, time and dispatch.
 ghost use mathlib.Core.Path.{_≡_};
-ghost use Rattle.kernel.specs.Thread as thread;
-ghost use Rattle.sync.specs.Mutexes as mutexes;
+ghost use Rattle.threading.specs.Thread as thread;
+ghost use Rattle.mutexes.specs.Mutexes as mutexes;
 ghost use Rattle.events.specs.Events as events;
-ghost use Rattle.sync.specs.Release as release;
+ghost use Rattle.event_release.specs.Release as release;
 ghost use Rattle.waiting.specs.Wait as wait;
 ghost use Rattle.advancing.specs.Advance.{advanced};
 ghost use Rattle.dispatcher.specs.Dispatched.{dispatched};
@@ -18,7 +18,7 @@ pub extern "C" fn raw_create_thread(words: &mut [u64], priority: u64, out: &mut 
     if out.len() < 4 {
         return 27;
     }
-    let answer = kernel::thread::create_thread(words, priority);
+    let answer = threading::create_thread(words, priority);
     put_answer(out, answer)
 }
 
@@ -29,7 +29,7 @@ pub extern "C" fn raw_priority(words: &mut [u64], id: u64, priority: u64, out: &
     if out.len() < 4 {
         return 27;
     }
-    let answer = kernel::thread::priority(words, id, priority);
+    let answer = threading::priority(words, id, priority);
     put_answer(out, answer)
 }
 
@@ -40,7 +40,7 @@ pub extern "C" fn raw_yield_current(words: &mut [u64], out: &mut [u64]) -> u64
     if out.len() < 4 {
         return 27;
     }
-    let answer = kernel::thread::yield_current(words);
+    let answer = threading::yield_current(words);
     put_answer(out, answer)
 }
 
@@ -51,7 +51,7 @@ pub extern "C" fn raw_terminate(words: &mut [u64], status: u32, out: &mut [u64])
     if out.len() < 4 {
         return 27;
     }
-    let answer = kernel::thread::terminate(words, status);
+    let answer = threading::terminate(words, status);
     put_answer(out, answer)
 }
 
@@ -62,7 +62,7 @@ pub extern "C" fn raw_initialize_mutex(words: &mut [u64], key: u64, out: &mut [u
     if out.len() < 4 {
         return 27;
     }
-    let answer = sync::mutexes::initialize_mutex(words, key);
+    let answer = mutexes::initialize_mutex(words, key);
     put_answer(out, answer)
 }
 
@@ -79,7 +79,7 @@ pub extern "C" fn raw_adopt_mutex(
     if out.len() < 4 {
         return 27;
     }
-    let answer = sync::mutexes::adopt_mutex(words, key, owned != 0, owner);
+    let answer = mutexes::adopt_mutex(words, key, owned != 0, owner);
     put_answer(out, answer)
 }
 
@@ -90,7 +90,7 @@ pub extern "C" fn raw_release_mutex(words: &mut [u64], key: u64, out: &mut [u64]
     if out.len() < 4 {
         return 27;
     }
-    let answer = sync::mutexes::release_mutex(words, key);
+    let answer = mutexes::release_mutex(words, key);
     put_answer(out, answer)
 }
 
@@ -146,7 +146,7 @@ pub extern "C" fn raw_retire_event_backing(
     if out.len() < 4 {
         return 27;
     }
-    let answer = sync::release::retire_event_backing(words, base, size, layout);
+    let answer = event_release::retire_event_backing(words, base, size, layout);
     put_answer(out, answer)
 }
 

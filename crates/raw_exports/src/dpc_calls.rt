@@ -1,6 +1,6 @@
 // DPCs: the policy, the queue, and the work's way from its start to its end.
 ghost use mathlib.Core.Path.{_≡_};
-ghost use Rattle.dpc.specs.Work as calls;
+ghost use Rattle.dpc_work.specs.Work as calls;
 ghost use Rattle.exports.specs.SchedulerAnswer.{given, changedBy};
 ghost use Rattle.exports.specs.RecordCall.{startedBy};
 use exports::record_answer::put_work_answer;
@@ -18,7 +18,7 @@ pub extern "C" fn raw_configure_dpc_dispatch(
     if out.len() < 4 {
         return 27;
     }
-    let answer = dpc::work::configure_dpc_dispatch(words, first, second);
+    let answer = dpc_work::configure_dpc_dispatch(words, first, second);
     put_answer(out, answer)
 }
 
@@ -35,7 +35,7 @@ pub extern "C" fn raw_insert_queue_dpc(
     if out.len() < 4 {
         return 27;
     }
-    let answer = dpc::work::insert_queue_dpc(words, address, first, second);
+    let answer = dpc_work::insert_queue_dpc(words, address, first, second);
     put_answer(out, answer)
 }
 
@@ -46,7 +46,7 @@ pub extern "C" fn raw_remove_queue_dpc(words: &mut [u64], address: u64, out: &mu
     if out.len() < 4 {
         return 27;
     }
-    let answer = dpc::work::remove_queue_dpc(words, address);
+    let answer = dpc_work::remove_queue_dpc(words, address);
     put_answer(out, answer)
 }
 
@@ -57,7 +57,7 @@ pub extern "C" fn raw_start_dpc(words: &mut [u64], address: u64, out: &mut [u64]
     if out.len() < 24 {
         return 27;
     }
-    let answer = dpc::work::start_dpc(words, address);
+    let answer = dpc_work::start_dpc(words, address);
     put_work_answer(out, answer)
 }
 
@@ -73,7 +73,7 @@ pub extern "C" fn raw_returned_dpc(
     if out.len() < 4 {
         return 27;
     }
-    let answer = dpc::work::returned_dpc(words, address, sequence);
+    let answer = dpc_work::returned_dpc(words, address, sequence);
     put_answer(out, answer)
 }
 
@@ -89,6 +89,6 @@ pub extern "C" fn raw_restored_dpc(
     if out.len() < 4 {
         return 27;
     }
-    let answer = dpc::work::restored_dpc(words, address, sequence);
+    let answer = dpc_work::restored_dpc(words, address, sequence);
     put_answer(out, answer)
 }

@@ -18,10 +18,10 @@ use Rattle.clock.specs.declared.Reading.the-variants as reading
 use Rattle.clock.specs.declared.Outcome as clock
 use Rattle.clock.specs.Clock.{created, instruction, advanceMicroseconds, advance100ns, advanceMilliseconds, flushCycles, observe, qpc, tick64, tsc}
 use Rattle.clock.specs.Numbers.{errorNumber}
-use Rattle.dpc.specs.declared.work.WorkAnswer.{WorkAnswer}
-use Rattle.dpc.specs.declared.work.WorkAnswer.the-variants as work
+use Rattle.dpc_work.specs.declared.WorkAnswer.{WorkAnswer}
+use Rattle.dpc_work.specs.declared.WorkAnswer.the-variants as work
 use Rattle.dispatcher.specs.Dispatch.{Dispatched}
-use Rattle.dpc.specs.Work.{Started}
+use Rattle.dpc_work.specs.Work.{Started}
 use Rattle.script.specs.declared.command.Command.{Command}
 use Rattle.script.specs.declared.command.Command.the-variants as command
 use Rattle.script.specs.Print.{bareAnswer}

@@ -11,7 +11,7 @@ use clock::GuestClock;
 use clock::Outcome;
 use clock::Reading;
 use clock::core;
-use dpc::work::WorkAnswer;
+use dpc_work::WorkAnswer;
 use scheduler::changes;
 use scheduler::dpc_calls;
 use scheduler::reads;

@@ -20,7 +20,7 @@ pub fn create_thread(w: &mut [u64], priority: u64) -> Answer
     if !form::in_form(w) {
         return Answer::Refused(27);
     }
-    kernel::thread::create_thread(w, priority)
+    threading::create_thread(w, priority)
 }
 
 pub fn priority(w: &mut [u64], id: u64, priority: u64) -> Answer
@@ -29,7 +29,7 @@ pub fn priority(w: &mut [u64], id: u64, priority: u64) -> Answer
     if !form::in_form(w) {
         return Answer::Refused(27);
     }
-    kernel::thread::priority(w, id, priority)
+    threading::priority(w, id, priority)
 }
 
 pub fn yield_current(w: &mut [u64]) -> Answer
@@ -38,7 +38,7 @@ pub fn yield_current(w: &mut [u64]) -> Answer
     if !form::in_form(w) {
         return Answer::Refused(27);
     }
-    kernel::thread::yield_current(w)
+    threading::yield_current(w)
 }
 
 pub fn terminate(w: &mut [u64], status: u32) -> Answer
@@ -47,7 +47,7 @@ pub fn terminate(w: &mut [u64], status: u32) -> Answer
     if !form::in_form(w) {
         return Answer::Refused(27);
     }
-    kernel::thread::terminate(w, status)
+    threading::terminate(w, status)
 }
 
 pub fn initialize_mutex(w: &mut [u64], key: u64) -> Answer
@@ -56,7 +56,7 @@ pub fn initialize_mutex(w: &mut [u64], key: u64) -> Answer
     if !form::in_form(w) {
         return Answer::Refused(27);
     }
-    sync::mutexes::initialize_mutex(w, key)
+    mutexes::initialize_mutex(w, key)
 }
 
 pub fn adopt_mutex(w: &mut [u64], key: u64, owned: bool, owner: u64) -> Answer
@@ -66,9 +66,9 @@ pub fn adopt_mutex(w: &mut [u64], key: u64, owned: bool, owner: u64) -> Answer
         return Answer::Refused(27);
     }
     if owned {
-        return sync::mutexes::adopt_mutex(w, key, true, owner);
+        return mutexes::adopt_mutex(w, key, true, owner);
     }
-    sync::mutexes::adopt_mutex(w, key, false, 0)
+    mutexes::adopt_mutex(w, key, false, 0)
 }
 
 pub fn release_mutex(w: &mut [u64], key: u64) -> Answer
@@ -77,7 +77,7 @@ pub fn release_mutex(w: &mut [u64], key: u64) -> Answer
     if !form::in_form(w) {
         return Answer::Refused(27);
     }
-    sync::mutexes::release_mutex(w, key)
+    mutexes::release_mutex(w, key)
 }
 
 pub fn initialize_event(w: &mut [u64], key: u64, manual: bool, signaled: bool) -> Answer
@@ -113,7 +113,7 @@ pub fn retire_event_backing(w: &mut [u64], base: u64, size: u64, layout: u64) ->
     if !form::in_form(w) {
         return Answer::Refused(27);
     }
-    sync::release::retire_event_backing(w, base, size, layout)
+    event_release::retire_event_backing(w, base, size, layout)
 }
 
 pub fn delay_until(w: &mut [u64], deadline: u64, irql: u8) -> Answer

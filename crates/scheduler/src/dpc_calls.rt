@@ -3,12 +3,12 @@ ghost use mathlib.Core.Path.{_≡_};
 ghost use Rattle.model.specs.Call as call;
 ghost use Rattle.calls.specs.Called.{called};
 ghost use Rattle.answers.specs.Outcome.{outcome};
-ghost use Rattle.dpc.specs.Work as calls;
+ghost use Rattle.dpc_work.specs.Work as calls;
 use answers::Answer;
-use dpc::work::WorkAnswer;
 use dpc_reads::CountersAnswer;
 use dpc_reads::DpcAnswer;
 use dpc_reads::PolicyAnswer;
+use dpc_work::WorkAnswer;
 
 pub fn configure_dpc_dispatch(w: &mut [u64], first: u64, second: u64) -> Answer
     ensures { λ r. ⌜ outcome r (now (w .exit)) ≡ called (now (w .entry)) (call.ConfigureDpcDispatch first second) ⌝ }
@@ -16,7 +16,7 @@ pub fn configure_dpc_dispatch(w: &mut [u64], first: u64, second: u64) -> Answer
     if !form::in_form(w) {
         return Answer::Refused(27);
     }
-    dpc::work::configure_dpc_dispatch(w, first, second)
+    dpc_work::configure_dpc_dispatch(w, first, second)
 }
 
 pub fn insert_queue_dpc(w: &mut [u64], address: u64, first: u64, second: u64) -> Answer
@@ -25,7 +25,7 @@ pub fn insert_queue_dpc(w: &mut [u64], address: u64, first: u64, second: u64) ->
     if !form::in_form(w) {
         return Answer::Refused(27);
     }
-    dpc::work::insert_queue_dpc(w, address, first, second)
+    dpc_work::insert_queue_dpc(w, address, first, second)
 }
 
 pub fn remove_queue_dpc(w: &mut [u64], address: u64) -> Answer
@@ -34,7 +34,7 @@ pub fn remove_queue_dpc(w: &mut [u64], address: u64) -> Answer
     if !form::in_form(w) {
         return Answer::Refused(27);
     }
-    dpc::work::remove_queue_dpc(w, address)
+    dpc_work::remove_queue_dpc(w, address)
 }
 
 pub fn start_dpc(w: &mut [u64], address: u64) -> WorkAnswer
@@ -43,7 +43,7 @@ pub fn start_dpc(w: &mut [u64], address: u64) -> WorkAnswer
     if !form::in_form(w) {
         return WorkAnswer::Refused(27);
     }
-    dpc::work::start_dpc(w, address)
+    dpc_work::start_dpc(w, address)
 }
 
 pub fn returned_dpc(w: &mut [u64], address: u64, sequence: u64) -> Answer
@@ -52,7 +52,7 @@ pub fn returned_dpc(w: &mut [u64], address: u64, sequence: u64) -> Answer
     if !form::in_form(w) {
         return Answer::Refused(27);
     }
-    dpc::work::returned_dpc(w, address, sequence)
+    dpc_work::returned_dpc(w, address, sequence)
 }
 
 pub fn restored_dpc(w: &mut [u64], address: u64, sequence: u64) -> Answer
@@ -61,7 +61,7 @@ pub fn restored_dpc(w: &mut [u64], address: u64, sequence: u64) -> Answer
     if !form::in_form(w) {
         return Answer::Refused(27);
     }
-    dpc::work::restored_dpc(w, address, sequence)
+    dpc_work::restored_dpc(w, address, sequence)
 }
 
 pub fn dpc_initializations(w: &[u64]) -> Answer

@@ -10,7 +10,7 @@ pub fn current(w: &[u64]) -> Answer
     if !form::in_form(w) {
         return Answer::Refused(27);
     }
-    kernel::thread::current(w)
+    threading::current(w)
 }
 
 pub fn mutex_owner(w: &[u64], key: u64) -> Answer
@@ -19,7 +19,7 @@ pub fn mutex_owner(w: &[u64], key: u64) -> Answer
     if !form::in_form(w) {
         return Answer::Refused(27);
     }
-    sync::mutexes::mutex_owner(w, key)
+    mutexes::mutex_owner(w, key)
 }
 
 pub fn mutex_waiters(w: &[u64], key: u64) -> Answer
@@ -28,7 +28,7 @@ pub fn mutex_waiters(w: &[u64], key: u64) -> Answer
     if !form::in_form(w) {
         return Answer::Refused(27);
     }
-    sync::mutexes::mutex_waiters(w, key)
+    mutexes::mutex_waiters(w, key)
 }
 
 pub fn event_state(w: &[u64], key: u64) -> Answer
@@ -46,7 +46,7 @@ pub fn event_states(w: &[u64], position: u64) -> Answer
     if !form::in_form(w) {
         return Answer::Refused(27);
     }
-    sync::release::event_states(w, position)
+    event_release::event_states(w, position)
 }
 
 pub fn require_event_release(w: &[u64], base: u64, size: u64, layout: u64) -> Answer
@@ -55,5 +55,5 @@ pub fn require_event_release(w: &[u64], base: u64, size: u64, layout: u64) -> An
     if !form::in_form(w) {
         return Answer::Refused(27);
     }
-    sync::release::require_event_release(w, base, size, layout)
+    event_release::require_event_release(w, base, size, layout)
 }

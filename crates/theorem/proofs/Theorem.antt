@@ -14,10 +14,10 @@ use Rattle.model.proofs.FitsLaws.{numbers-opened}
 use Rattle.opening.specs.Open as words
 use Rattle.calls.specs.Called.{called}
 use Rattle.calls.specs.Run.{answered, left}
-use Rattle.history.specs.Agree.{Agree}
-use Rattle.history_threads.proofs.Open.{opens, opens-done}
-use Rattle.history_form.proofs.Passes.{passes}
-use Rattle.history_lengths.proofs.Calls.{keeps-length}
+use Rattle.agreement.specs.Agree.{Agree}
+use Rattle.agreement_threads.proofs.Open.{opens, opens-done}
+use Rattle.agreement_form.proofs.Passes.{passes}
+use Rattle.agreement_lengths.proofs.Calls.{keeps-length}
 use Rattle.theorem.specs.History.{answersOn, Proper}
 use Rattle.theorem.specs.Theorem.{Theorem, logged, end}
 use Rattle.theorem.proofs.Agreed.{Agreed, agreed}

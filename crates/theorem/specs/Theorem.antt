@@ -14,11 +14,11 @@ use Rattle.model.specs.Call.{Call, Open}
 use Rattle.model.specs.Step.{opened}
 use Rattle.model.specs.Step as log
 use Rattle.model.specs.Valid.{Valid}
-use Rattle.history_chains.specs.Chains.{Holds}
-use Rattle.history_chains.specs.Ready.{ReadyQueues}
-use Rattle.history.specs.Records.{numbersIn, activeAddress}
-use Rattle.history.specs.Chains.{queuesOf, queueFrom}
-use Rattle.history.specs.Agree.{dpcsFrom, Agree}
+use Rattle.agreement_chains.specs.Chains.{Holds}
+use Rattle.agreement_chains.specs.Ready.{ReadyQueues}
+use Rattle.agreement.specs.Records.{numbersIn, activeAddress}
+use Rattle.agreement.specs.Chains.{queuesOf, queueFrom}
+use Rattle.agreement.specs.Agree.{dpcsFrom, Agree}
 use Rattle.theorem.specs.History.{answersOn, wordsAfter}
 
 module _ (w : List ℕ) (p t o d : ℕ) (calls : List Call) where

@@ -1,0 +1,123 @@
+-- The writers of records as runs of stores. What holds of every run (what it leaves, what a row says after it) then holds of each.
+use Prim.Native.Nat.{ℕ, zero, suc, _+_, _*_, _≤_, _<_}
+use mathlib.Core.List.{List, [], _∷_}
+use mathlib.Core.Path.{_≡_, refl, ap, _∙_, subst}
+use native.Mathlib.Omega.{arith}
+use lib.ListN.{getD, set, length}
+use Rattle.words.specs.Layout.{threadAt}
+use Rattle.threads.specs.declared.Thread as stored
+use Rattle.threads.specs.declared.Wait as stored-wait
+use Rattle.threads.specs.Thread.{putThread, putPlaces, putTerms, putWait, placesAt}
+use Rattle.objects.specs.declared.Object as stored-object
+use Rattle.objects.specs.Objects.{putObject}
+use Rattle.dpc_table.specs.declared.NewDpc.{NewDpc}
+use Rattle.dpc_table.specs.Table.{putIdle, putImage, putDpc}
+use Rattle.agreement_chains.specs.Chains.{Same}
+use Rattle.agreement.proofs.Rows.{Store, store, written, In, length-written, written-outside}
+use Rattle.agreement.proofs.Places.{thread-place, Scalar, Waiting}
+
+-- ---- a thread
+
+abbrev pub threadStores : stored.Thread → List Store
+threadStores t = store 0 (t .priority) ∷ store 1 (t .state) ∷ store 4 (t .result) ∷ store 5 (t .status) ∷ []
+
+pub thread-stores : (t : stored.Thread) → In Scalar (threadStores t)
+thread-stores t = (
+  one 0 (omega arith) (λ e. omega arith) (λ e. omega arith),
+  (
+    one 1 (omega arith) (λ e. omega arith) (λ e. omega arith),
+    (one 4 (omega arith) (λ e. omega arith) (λ e. omega arith), (one 5 (omega arith) (λ e. omega arith) (λ e. omega arith), tt)),
+  ),
+)
+  where
+    one : (k : ℕ) → k ≤ 5 → (k ≡ 2 → ⊥) → (k ≡ 3 → ⊥) → Scalar k
+    one k h a b = record { small = h; no-next = a; no-waiter = b }
+
+pub put-thread : (w : List ℕ) (id : ℕ) (t : stored.Thread) → id ≤ 256 → putThread w id t ≡ written w (96 + 160 * id) (threadStores t)
+unfolding putThread
+put-thread w id t h = ap (λ (at : ℕ). written w at (threadStores t)) (thread-place id h)
+
+-- ---- a wait
+
+abbrev pub termStores : stored-wait.Wait → List Store
+termStores x = store 6 (x .all) ∷ store 7 (x .timed) ∷ store 8 (x .deadline) ∷ store 9 (x .sequence) ∷ store 10 (x .count) ∷ []
+
+-- the `k` words of places from `i` on
+abbrev pub placeStores : ℕ → List ℕ → ℕ → List Store
+placeStores zero places i = []
+placeStores (suc k) places i = store i (getD places i 0) ∷ placeStores k places (i + 1)
+
+pub put-terms : (w : List ℕ) (id : ℕ) (x : stored-wait.Wait) → id ≤ 256 → putTerms w id x ≡ written w (96 + 160 * id) (termStores x)
+unfolding putTerms
+put-terms w id x h = ap (λ (at : ℕ). written w at (termStores x)) (thread-place id h)
+
+pub put-places : (k : ℕ) (w : List ℕ) (place : ℕ) (places : List ℕ) (i : ℕ) → putPlaces k w place places i ≡ written w place (placeStores k places i)
+unfolding putPlaces
+put-places zero w place places i = refl
+put-places (suc k) w place places i = put-places k (set w (place + i) (getD places i 0)) place places (i + 1)
+
+pub put-wait : (w : List ℕ) (id : ℕ) (x : stored-wait.Wait) → id ≤ 256
+    → putWait w id x ≡ written (written w (96 + 160 * id) (termStores x)) (128 + 160 * id) (placeStores (2 * x .count) (x .places) 0)
+unfolding putWait placesAt
+put-wait w id x h =
+    put-places (2 * x .count) (putTerms w id x) (threadAt id + 32) (x .places) 0
+    ∙ ap (λ (v : List ℕ). written v (threadAt id + 32) (placeStores (2 * x .count) (x .places) 0)) (put-terms w id x h)
+    ∙ ap (λ (at : ℕ). written (written w (96 + 160 * id) (termStores x)) at (placeStores (2 * x .count) (x .places) 0))
+    (let e : threadAt id + 32 ≡ 128 + 160 * id = omega (arith, thread-place id h) in e)
+
+pub place-stores : (k : ℕ) (places : List ℕ) (i n : ℕ) → i + k ≤ n → In (λ j. j < n) (placeStores k places i)
+place-stores zero places i n h = tt
+place-stores (suc k) places i n h = (omega arith, place-stores k places (i + 1) n (omega arith))
+
+pub term-stores : (x : stored-wait.Wait) → In Waiting (termStores x)
+term-stores x = (
+  one 6 (omega arith) (omega arith),
+  (
+    one 7 (omega arith) (omega arith),
+    (
+      one 8 (omega arith) (omega arith),
+      (
+        one 9 (omega arith) (omega arith),
+        (one 10 (omega arith) (omega arith), tt),
+      ),
+    ),
+  ),
+)
+  where
+    one : (k : ℕ) → 6 ≤ k → k < 160 → Waiting k
+    one k a b = record { from = a; to = b }
+
+-- a wait of at most 64 places is written in words 6 to 159 of its thread's record
+pub wait-outside : (R : ℕ → Type 0) (w : List ℕ) (id : ℕ) (x : stored-wait.Wait) → id ≤ 256 → x .count ≤ 64 → ((d : ℕ) → Waiting d → R (96 + 160 * id + d) → ⊥) → Same R w (putWait w id x)
+wait-outside R w id x h few n j r = ap (λ (v : List ℕ). getD v j 0) (put-wait w id x h)
+    ∙ written-outside R (λ k. k < 128) (written w (96 + 160 * id) (termStores x)) (128 + 160 * id) (placeStores (2 * x .count) (x .places) 0)
+    (place-stores (2 * x .count) (x .places) 0 128 (omega arith))
+    (λ k l q. n (32 + k) (record { from = omega arith; to = omega arith }) (subst R (omega arith) q)) j r
+    ∙ written-outside R Waiting w (96 + 160 * id) (termStores x) (term-stores x) n j r
+
+pub length-wait : (w : List ℕ) (id : ℕ) (x : stored-wait.Wait) → id ≤ 256 → length (putWait w id x) ≡ length w
+length-wait w id x h = ap (λ (v : List ℕ). length v) (put-wait w id x h)
+    ∙ length-written (written w (96 + 160 * id) (termStores x)) (128 + 160 * id) (placeStores (2 * x .count) (x .places) 0)
+    ∙ length-written w (96 + 160 * id) (termStores x)
+
+-- ---- an object, a DPC: place + 0 is the place
+
+abbrev pub objectStores : ℕ → stored-object.Object → List Store
+objectStores key o = store 0 key ∷ store 1 (o .kind) ∷ store 2 (o .manual) ∷ store 3 (o .signaled) ∷ store 4 (o .owner) ∷ []
+
+pub put-object : (w : List ℕ) (place key : ℕ) (o : stored-object.Object) → putObject w place key o ≡ written w place (objectStores key o)
+unfolding putObject
+put-object w place key o =
+    ap (λ (p : ℕ). set (set (set (set (set w p key) (place + 1) (o .kind)) (place + 2) (o .manual)) (place + 3) (o .signaled)) (place + 4) (o .owner))
+    (let e : place ≡ place + 0 = omega arith in e)
+
+abbrev pub dpcStores : ℕ → NewDpc → List Store
+dpcStores address d =
+    store 0 address ∷ store 1 0 ∷ store 2 0 ∷ store 3 0 ∷ store 4 (d .architecture) ∷ store 5 (d .backing) ∷ store 6 (d .base) ∷ store 7 (d .size)
+    ∷ store 8 (d .mapped) ∷ store 9 (d .routine) ∷ store 10 (d .context) ∷ []
+
+pub put-dpc : (w : List ℕ) (place address : ℕ) (d : NewDpc) → putDpc w place address d ≡ written w place (dpcStores address d)
+unfolding putDpc putImage putIdle
+put-dpc w place address d =
+    ap (λ (p : ℕ). putImage (set (set (set (set w p address) (place + 1) 0) (place + 2) 0) (place + 3) 0) place d)
+    (let e : place ≡ place + 0 = omega arith in e)

@@ -1,0 +1,57 @@
+use borrow.Author.Tests.{eq-eqb, ne-eqb}
+use mathlib.Core.Path.{_∙_, sym}
+use Rattle.mutexes.specs.Mutexes.{mutexRefusal}
+use borrow.Author.Needs.{needs}
+use Rattle.mutexes.proofs.mutex_refusal.Statement.{statement}
+use Rattle.mutexes.proofs.mutex_refusal.Tie as tie
+
+collision-requires : tie.Need-collision-requires
+collision-requires c κs = search needs
+
+returns : tie.Need-returns
+unfolding mutexRefusal
+returns c = simp (sym (c .before .collision .ensures) ∙ c .if1 .taken)
+
+returns-2 : tie.Need-returns-2
+unfolding mutexRefusal
+returns-2 c = simp (sym (c .before .before .collision .ensures) ∙ c .before .if1 .left, eq-eqb _ _ (c .if2 .taken))
+
+is-full-requires : tie.Need-is-full-requires
+is-full-requires c κs = search needs
+
+returns-3 : tie.Need-returns-3
+unfolding mutexRefusal
+returns-3 c = simp (sym (c .before .before .before .before .collision .ensures) ∙ c .before .before .before .if1 .left, ne-eqb _ _ (c .before .before .if2 .left), sym (c .before .is-full .ensures) ∙ c .if3 .taken)
+
+owner-of-requires : tie.Need-owner-of-requires
+owner-of-requires c κs = search needs
+
+returns-4 : tie.Need-returns-4
+unfolding mutexRefusal
+returns-4 c = simp (sym (c .before .before .before .before .before .before .collision .ensures) ∙ c .before .before .before .before .before .if1 .left, ne-eqb _ _ (c .before .before .before .before .if2 .left), sym (c .before .before .before .is-full .ensures) ∙ c .before .before .if3 .left, ← (c .before .owner-of .ensures), ne-eqb _ _ (c .if4 .taken))
+
+waits-on-requires : tie.Need-waits-on-requires
+waits-on-requires c κs = search needs
+
+returns-5 : tie.Need-returns-5
+unfolding mutexRefusal
+returns-5 c = simp (sym (c .before .before .before .before .before .before .before .before .collision .ensures) ∙ c .before .before .before .before .before .before .before .if1 .left, ne-eqb _ _ (c .before .before .before .before .before .before .if2 .left), sym (c .before .before .before .before .before .is-full .ensures) ∙ c .before .before .before .before .if3 .left, ← (c .before .before .before .owner-of .ensures), eq-eqb _ _ (c .before .before .if4 .left), sym (c .before .waits-on .ensures) ∙ c .if5 .taken)
+
+returns-6 : tie.Need-returns-6
+unfolding mutexRefusal
+returns-6 c = simp (sym (c .before .before .before .before .before .before .before .before .collision .ensures) ∙ c .before .before .before .before .before .before .before .if1 .left, ne-eqb _ _ (c .before .before .before .before .before .before .if2 .left), sym (c .before .before .before .before .before .is-full .ensures) ∙ c .before .before .before .before .if3 .left, ← (c .before .before .before .owner-of .ensures), eq-eqb _ _ (c .before .before .if4 .left), sym (c .before .waits-on .ensures) ∙ c .if5 .left)
+
+pub mutex-refusal-spec : {M : Type 1} → statement M
+mutex-refusal-spec =
+    tie.close
+    (tie.spec
+    collision-requires
+    returns
+    returns-2
+    is-full-requires
+    returns-3
+    owner-of-requires
+    returns-4
+    waits-on-requires
+    returns-5
+    returns-6)

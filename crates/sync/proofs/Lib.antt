@@ -1,2 +1,0 @@
-pub mod WaiterLaws
-pub mod ReleaseLaws

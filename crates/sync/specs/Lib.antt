@@ -1,2 +1,0 @@
-pub mod Mutexes
-pub mod Release
