@@ -17,7 +17,7 @@ use Rattle.expiry_advance.specs.Advance.{expiryRefusal, expiryWords}
 -- the thread waits (state 3) with a deadline at or before the time
 unfoldable pub overdue : List ℕ → ℕ → ℕ → Bool
 overdue w id time =
-    cond (eqb (getD w (threadAt id + 1) 0) 3) (cond (eqb (getD w (threadAt id + 7) 0) 0) false (leb (getD w (threadAt id + 8) 0) time)) false
+    cond (eqb (getD w (threadAt id + at.state) 0) 3) (cond (eqb (getD w (threadAt id + at.hasDeadline) 0) 0) false (leb (getD w (threadAt id + at.deadline) 0) time)) false
 
 -- result 1 is a timeout
 unfoldable pub expired : List ℕ → ℕ → ℕ → List ℕ

@@ -5,6 +5,7 @@ use mathlib.Core.Logic.{inl, inr}
 use mathlib.Core.Path.{_≡_, refl, sym, subst}
 use native.Mathlib.Omega.{arith}
 use lib.ListN.{length}
+use Rattle.words.specs.Layout as at
 use Rattle.chains.specs.Chain.{pushed, removed, unlinked}
 use Rattle.chains.specs.Ready.{waitersChain, placedLast, unplaced}
 use Rattle.model.specs.Lists.{Mem, without}
@@ -37,7 +38,7 @@ module _ (w : List ℕ) (s : State) (holder : ℕ → ℕ) (active : ℕ) (a : A
   abbrev n : ℕ
   n = length (s .dispatcher .threads)
 
-  few : length (s .dispatcher .threads) ≤ 256
+  few : length (s .dispatcher .threads) ≤ at.mostThreads
   few = threads-few w s holder active a
 
   fit : length (s .dispatcher .threads) ≤ s .limits .threads
@@ -56,7 +57,7 @@ module _ (w : List ℕ) (s : State) (holder : ℕ → ℕ) (active : ℕ) (a : A
       → ReadyQueues w′ (queuesOf (s .dispatcher .threads) placed′) → Standing (length (s .dispatcher .threads)) placed′
       → Agreeing w′ (withDispatcher s (withPlaced (s .dispatcher) placed′)) holder active
   ready-step w′ placed′ len same qs st = record {
-    enough = subst (λ (m : ℕ). 256 + 160 * s .limits .threads + 32 * (s .limits .objects + s .limits .dpcs) ≤ m) (sym len) (a .enough);
+    enough = subst (λ (m : ℕ). at.headerSize + at.threadSize * s .limits .threads + 32 * (s .limits .objects + s .limits .dpcs) ≤ m) (sym len) (a .enough);
     numbers = numbers-depend w w′ s active
         (λ j h. same j (λ r. ready-cases ⊥ n j (ready-place n j few r) (h .no-ready) (λ x y. omega (arith, h .small)) (λ l. omega (arith, h .small, l .here)))) (a .numbers);
     threads = threads-depend w w′ (s .dispatcher .threads)
@@ -118,7 +119,7 @@ module _ (w : List ℕ) (s : State) (holder : ℕ → ℕ) (active : ℕ) (a : A
       → Holds w′ waitersChain waiters′ → Standing (length (s .dispatcher .threads)) waiters′
       → Agreeing w′ (withDispatcher s (withWaiters (s .dispatcher) waiters′)) holder active
   waiters-step w′ waiters′ len same hs st = record {
-    enough = subst (λ (m : ℕ). 256 + 160 * s .limits .threads + 32 * (s .limits .objects + s .limits .dpcs) ≤ m) (sym len) (a .enough);
+    enough = subst (λ (m : ℕ). at.headerSize + at.threadSize * s .limits .threads + 32 * (s .limits .objects + s .limits .dpcs) ≤ m) (sym len) (a .enough);
     numbers = numbers-depend w w′ s active (λ j h. same j (λ r. waiter-cases ⊥ n j (place j r)
         (λ e. h .no-end (omega arith) (omega arith)) (λ e. h .no-end (omega arith) (omega arith)) (λ l. omega (arith, h .small, l .here)))) (a .numbers);
     threads = threads-depend w w′ (s .dispatcher .threads) (λ j f. same j (λ r. waiter-cases ⊥ n j (place j r)

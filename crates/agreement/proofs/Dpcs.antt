@@ -6,6 +6,7 @@ use mathlib.Core.Logic.{_⊎_, inl, inr}
 use mathlib.Core.Path.{_≡_, refl, sym, ap, _∙_, subst}
 use native.Mathlib.Omega.{arith}
 use lib.ListN.{set, length}
+use Rattle.words.specs.Layout as at
 use Rattle.images.specs.declared.Dpc.{Dpc}
 use Rattle.images.specs.declared.DpcWork.{DpcWork}
 use Rattle.images.specs.declared.DpcOrigin.{DpcOrigin}
@@ -46,13 +47,13 @@ beforeWork holder d p =
 
 -- another phase, with the same work or with none
 pub phase-row : (w : List ℕ) (place holder : ℕ) (d : Dpc) (p : DpcPhase) → place + 1 < length w → (workOf p ≡ workOf (d .phase)) ⊎ (workOf p ≡ none)
-    → Row w place (dpcRow holder d) → Row (set w (place + 1) (phaseNumber p)) place (dpcRow holder (inPhase d p))
+    → Row w place (dpcRow holder d) → Row (set w (place + at.phase) (phaseNumber p)) place (dpcRow holder (inPhase d p))
 phase-row w place holder d p h (inl e) a =
-    subst (λ (x : Option DpcWork). Row (set w (place + 1) (phaseNumber p)) place (beforeWork holder d (phaseNumber p) ++ workRow x)) (sym e)
+    subst (λ (x : Option DpcWork). Row (set w (place + at.phase) (phaseNumber p)) place (beforeWork holder d (phaseNumber p) ++ workRow x)) (sym e)
     (row-set w place (dpcRow holder d) 1 (phaseNumber p) h a)
 phase-row w place holder d p h (inr e) a =
-    subst (λ (x : Option DpcWork). Row (set w (place + 1) (phaseNumber p)) place (beforeWork holder d (phaseNumber p) ++ workRow x)) (sym e)
-    (row-less (set w (place + 1) (phaseNumber p)) place (beforeWork holder d (phaseNumber p)) (workRow (workOf (d .phase))) (row-set w place (dpcRow holder d) 1 (phaseNumber p) h a))
+    subst (λ (x : Option DpcWork). Row (set w (place + at.phase) (phaseNumber p)) place (beforeWork holder d (phaseNumber p) ++ workRow x)) (sym e)
+    (row-less (set w (place + at.phase) (phaseNumber p)) place (beforeWork holder d (phaseNumber p)) (workRow (workOf (d .phase))) (row-set w place (dpcRow holder d) 1 (phaseNumber p) h a))
 
 -- ---- work as the code writes it
 
@@ -129,14 +130,14 @@ module _ (w : List ℕ) (s : State) (holder : ℕ → ℕ) (active : ℕ) (a : A
 
   -- another phase with the same work or none
   pub sim-phase : (p : DpcPhase) → (workOf p ≡ workOf (d .phase)) ⊎ (workOf p ≡ none)
-      → Agreeing (set w (dpcFound w k + 1) (phaseNumber p)) (withDpcs s (record { table = rephased (s .dpcs .table) k p; queue = s .dpcs .queue; counters = s .dpcs .counters })) holder active
-  sim-phase p same = subst (λ (b : ℕ). Agreeing (set w (b + 1) (phaseNumber p)) (withDpcs s (record { table = rephased (s .dpcs .table) k p; queue = s .dpcs .queue; counters = s .dpcs .counters })) holder active)
+      → Agreeing (set w (dpcFound w k + at.phase) (phaseNumber p)) (withDpcs s (record { table = rephased (s .dpcs .table) k p; queue = s .dpcs .queue; counters = s .dpcs .counters })) holder active
+  sim-phase p same = subst (λ (b : ℕ). Agreeing (set w (b + at.phase) (phaseNumber p)) (withDpcs s (record { table = rephased (s .dpcs .table) k p; queue = s .dpcs .queue; counters = s .dpcs .counters })) holder active)
       (sym (dpc-place w s holder active a k d e))
-      (in-phase p (set w (place + 1) (phaseNumber p))
-      (subst (λ (b : ℕ). Agreeing (set w (dpcsFrom (s .limits) + 32 * below addressOf b (s .dpcs .table) + 1) (phaseNumber p))
+      (in-phase p (set w (place + at.phase) (phaseNumber p))
+      (subst (λ (b : ℕ). Agreeing (set w (dpcsFrom (s .limits) + 32 * below addressOf b (s .dpcs .table) + at.phase) (phaseNumber p))
       (withDpcs s (record { table = putDpc (inPhase d p) (s .dpcs .table); queue = s .dpcs .queue; counters = s .dpcs .counters })) holder active) named
       (sim-put-dpc w s holder active a d (inPhase d p) holder (store 1 (phaseNumber p) ∷ []) (ap (dpcAt (s .dpcs .table)) named ∙ e) (λ b n. refl) (unlinked 1 (omega arith) (λ q. omega arith), tt)
-      (subst (λ (b : ℕ). Row (set w (dpcsFrom (s .limits) + 32 * below addressOf b (s .dpcs .table) + 1) (phaseNumber p)) (dpcsFrom (s .limits) + 32 * below addressOf b (s .dpcs .table)) (dpcRow (holder (d .address)) (inPhase d p))) (sym named)
+      (subst (λ (b : ℕ). Row (set w (dpcsFrom (s .limits) + 32 * below addressOf b (s .dpcs .table) + at.phase) (phaseNumber p)) (dpcsFrom (s .limits) + 32 * below addressOf b (s .dpcs .table)) (dpcRow (holder (d .address)) (inPhase d p))) (sym named)
       (phase-row w place (holder (d .address)) d p (omega (arith, long)) same (dpc-row w s holder active a k d e))))))
 
   -- new work, queued
@@ -157,13 +158,13 @@ module _ (w : List ℕ) (s : State) (holder : ℕ → ℕ) (active : ℕ) (a : A
       (work-row w place (holder (d .address)) d x long (dpc-row w s holder active a k d e)))))))
 
   -- the inserted timer that has it
-  pub sim-holder : (v : ℕ) (holder′ : ℕ → ℕ) → holder′ k ≡ v → ((b : ℕ) → (b ≡ k → ⊥) → holder′ b ≡ holder b) → Agreeing (set w (dpcFound w k + 3) v) s holder′ active
+  pub sim-holder : (v : ℕ) (holder′ : ℕ → ℕ) → holder′ k ≡ v → ((b : ℕ) → (b ≡ k → ⊥) → holder′ b ≡ holder b) → Agreeing (set w (dpcFound w k + at.namedBy) v) s holder′ active
   sim-holder v holder′ own others =
-      subst (λ (b : ℕ). Agreeing (set w (b + 3) v) s holder′ active) (sym (dpc-place w s holder active a k d e))
+      subst (λ (b : ℕ). Agreeing (set w (b + at.namedBy) v) s holder′ active) (sym (dpc-place w s holder active a k d e))
       (sim-dpc w s holder active a (below addressOf k (s .dpcs .table)) d (s .dpcs .table) holder′ (store 3 v ∷ []) (find-in addressOf (s .dpcs .table) (a .shape .dpcs .rising) k d e)
       (find-at addressOf (s .dpcs .table) (a .shape .dpcs .rising) k d e) (λ j n. refl) refl (λ j x n q. others (x .address) (λ z. n (position j x q z))) refl (a .shape .dpcs)
       (unlinked 3 (omega arith) (λ q. omega arith), tt)
-      (subst (λ (h : ℕ). Row (set w (place + 3) v) place (dpcRow h d)) (sym (ap holder′ named ∙ own)) (row-set w place (dpcRow (holder (d .address)) d) 3 v (omega (arith, long)) (dpc-row w s holder active a k d e))))
+      (subst (λ (h : ℕ). Row (set w (place + at.namedBy) v) place (dpcRow h d)) (sym (ap holder′ named ∙ own)) (row-set w place (dpcRow (holder (d .address)) d) 3 v (omega (arith, long)) (dpc-row w s holder active a k d e))))
     where
       position : (j : ℕ) (x : Dpc) → Rattle.model.specs.Lists.nth (s .dpcs .table) j ≡ some x → x .address ≡ k → j ≡ below addressOf k (s .dpcs .table)
       position j x q z = sym (Rattle.agreement_tables.proofs.Numbers.below-nth addressOf (s .dpcs .table) (a .shape .dpcs .rising) j x q) ∙ ap (λ (b : ℕ). below addressOf b (s .dpcs .table)) z

@@ -7,6 +7,7 @@ use mathlib.Core.Logic.{inl, inr}
 use mathlib.Core.Path.{_≡_, refl, sym, ap, _∙_, subst}
 use native.Mathlib.Omega.{arith}
 use lib.ListN.{getD, length}
+use Rattle.words.specs.Layout as at
 use Rattle.images.specs.declared.Dpc.{Dpc}
 use Rattle.images.specs.declared.DpcWork.{DpcWork}
 use Rattle.images.specs.declared.DpcOrigin.{DpcOrigin}
@@ -54,7 +55,7 @@ numbers-depend w w′ s active same a = row-depends w w′ 0 (headerOf s active)
 
 -- ---- threads
 
-pub thread-word : (n i j : ℕ) (t : Thread) → 1 ≤ i → i ≤ n → Of (96 + 160 * i) (threadRow t) j → Field n Scalar j
+pub thread-word : (n i j : ℕ) (t : Thread) → 1 ≤ i → i ≤ n → Of (at.threadFrom i) (threadRow t) j → Field n Scalar j
 thread-word n i j t one le o =
     let h : o .word < 6 = says-short (threadRow t) (o .word) (o .holds) (o .says) in
     record {
@@ -62,52 +63,52 @@ thread-word n i j t one le o =
       word = o .word;
       one = one;
       le = le;
-      has = record { small = omega arith; no-next = silent (threadRow t) (96 + 160 * i) j 2 o refl; no-waiter = silent (threadRow t) (96 + 160 * i) j 3 o refl };
+      has = record { small = omega arith; no-next = silent (threadRow t) (at.threadFrom i) j 2 o refl; no-waiter = silent (threadRow t) (at.threadFrom i) j 3 o refl };
       here = o .here;
     }
 
 pub threads-depend : (w w′ : List ℕ) (l : List Thread) → Same (Field (length l) Scalar) w w′ → Threads w l → Threads w′ l
 threads-depend w w′ l same a i one le =
-    row-depends w w′ (96 + 160 * i) (threadRow (threadAt l i)) (λ j o. same j (thread-word (length l) i j (threadAt l i) one le o)) (a i one le)
+    row-depends w w′ (at.threadFrom i) (threadRow (threadAt l i)) (λ j o. same j (thread-word (length l) i j (threadAt l i) one le o)) (a i one le)
 
 -- ---- waits
 
 -- word `d` of the record of thread `i`
-pub waiting-word : (i d j : ℕ) → 6 ≤ d → d < 160 → j ≡ 96 + 160 * i + d → Inner (96 + 160 * i) Waiting j
+pub waiting-word : (i d j : ℕ) → at.waitAll ≤ d → d < at.threadSize → j ≡ at.threadFrom i + d → Inner (at.threadFrom i) Waiting j
 waiting-word i d j h k e = record { word = d; has = record { from = h; to = k }; here = e }
 
 -- a word of one thread's record is one of the threads' records
-pub in-field : (n i : ℕ) (D : ℕ → Type 0) (j : ℕ) → 1 ≤ i → i ≤ n → Inner (96 + 160 * i) D j → Field n D j
+pub in-field : (n i : ℕ) (D : ℕ → Type 0) (j : ℕ) → 1 ≤ i → i ≤ n → Inner (at.threadFrom i) D j → Field n D j
 in-field n i D j one le o = record { id = i; word = o .word; one = one; le = le; has = o .has; here = o .here }
 
 pub length-places : (l : List Named) → length (placesRow l) ≡ 2 * length l
 length-places [] = refl
 length-places (x ∷ xs) = omega (arith, length-places xs)
 
-module _ (w w′ : List ℕ) (i : ℕ) (same : Same (Inner (96 + 160 * i) Waiting) w w′) where
+module _ (w w′ : List ℕ) (i : ℕ) (same : Same (Inner (at.threadFrom i) Waiting) w w′) where
   pub kept-depends : WaitKept w i → WaitKept w′ i
   kept-depends a = record {
-    all = subst (λ (m : ℕ). m ≤ 1) (sym (same (102 + 160 * i) (waiting-word i 6 _ (omega arith) (omega arith) (omega arith)))) (a .all);
-    timed = subst (λ (m : ℕ). m ≤ 1) (sym (same (103 + 160 * i) (waiting-word i 7 _ (omega arith) (omega arith) (omega arith)))) (a .timed);
+    all = subst (λ (m : ℕ). m ≤ 1) (sym (same (at.threadWord at.waitAll i) (waiting-word i at.waitAll _ (omega arith) (omega arith) (omega arith)))) (a .all);
+    timed = subst (λ (m : ℕ). m ≤ 1) (sym (same (at.threadWord at.hasDeadline i) (waiting-word i at.hasDeadline _ (omega arith) (omega arith) (omega arith)))) (a .timed);
     count = subst (λ (m : ℕ). m ≤ 64) (sym count) (a .count);
-    kinds = λ k h. let l : k < getD w (106 + 160 * i) 0 = subst (λ (m : ℕ). k < m) count h in
-        subst (λ (m : ℕ). m ≤ 3) (sym (same (128 + 160 * i + 2 * k) (waiting-word i (32 + 2 * k) _ (omega arith) (omega (arith, a .count)) (omega arith)))) (a .kinds k l);
+    kinds = λ k h. let l : k < getD w (at.threadWord at.waitCount i) 0 = subst (λ (m : ℕ). k < m) count h in
+        subst (λ (m : ℕ). m ≤ 3) (sym (same (at.threadWord at.waitPlaces i + 2 * k) (waiting-word i (at.waitPlaces + 2 * k) _ (omega arith) (omega (arith, a .count)) (omega arith)))) (a .kinds k l);
   }
     where
-      count : getD w′ (106 + 160 * i) 0 ≡ getD w (106 + 160 * i) 0
-      count = same (106 + 160 * i) (waiting-word i 10 _ (omega arith) (omega arith) (omega arith))
+      count : getD w′ (at.threadWord at.waitCount i) 0 ≡ getD w (at.threadWord at.waitCount i) 0
+      count = same (at.threadWord at.waitCount i) (waiting-word i at.waitCount _ (omega arith) (omega arith) (omega arith))
 
   pub wait-depends : (x : Status) → StatusFits x → WaitOf w i x → WaitOf w′ i x
   wait-depends running f a = tt
   wait-depends ready f a = tt
   wait-depends (exited m) f a = tt
   wait-depends (waiting x) f a = record {
-    terms = row-depends w w′ (102 + 160 * i) (termsRow x)
+    terms = row-depends w w′ (at.threadWord at.waitAll i) (termsRow x)
         (λ j o. let h : o .word < 5 = says-short (termsRow x) (o .word) (o .holds) (o .says) in
-        same j (waiting-word i (6 + o .word) j (omega arith) (omega arith) (omega (arith, o .here)))) (a .terms);
-    places = row-depends w w′ (128 + 160 * i) (placesRow (x .objects))
+        same j (waiting-word i (at.waitAll + o .word) j (omega arith) (omega arith) (omega (arith, o .here)))) (a .terms);
+    places = row-depends w w′ (at.threadWord at.waitPlaces i) (placesRow (x .objects))
         (λ j o. let h = says-short (placesRow (x .objects)) (o .word) (o .holds) (o .says) in
-        same j (waiting-word i (32 + o .word) j (omega arith) (omega (arith, length-places (x .objects), f .few)) (omega (arith, o .here)))) (a .places);
+        same j (waiting-word i (at.waitPlaces + o .word) j (omega arith) (omega (arith, length-places (x .objects), f .few)) (omega (arith, o .here)))) (a .places);
   }
 
 pub waits-depend : (w w′ : List ℕ) (l : List Thread) → ThreadsFit l → Same (Field (length l) Waiting) w w′ → Waits w l → Waits w′ l
@@ -126,12 +127,12 @@ chain-depends w w′ c n xs few within same a = holds-depends w c xs a w′ (λ 
     place j (inr (y, inl z, e)) = inr (y, omega arith, e)
     place j (inr (y, inr m, e)) = inr (y, within y m, e)
 
-pub queues-depend : (w w′ : List ℕ) (l : List Thread) (placed : List ℕ) → length l ≤ 256 → Standing (length l) placed → Same (ReadyWords (length l)) w w′
+pub queues-depend : (w w′ : List ℕ) (l : List Thread) (placed : List ℕ) → length l ≤ at.mostThreads → Standing (length l) placed → Same (ReadyWords (length l)) w w′
     → ReadyQueues w (queuesOf l placed) → ReadyQueues w′ (queuesOf l placed)
 queues-depend w w′ l placed few st same a =
     ready-depends (length l) w w′ (queuesOf l placed) (sorted-of (length l) (λ x. threadAt l x .priority) placed st) (λ j r. same j (ready-place (length l) j few r)) a
 
-pub waiters-depend : (w w′ : List ℕ) (n : ℕ) (waiters : List ℕ) → n ≤ 256 → Standing n waiters → Same (WaiterWords n) w w′ → Holds w waitersChain waiters → Holds w′ waitersChain waiters
+pub waiters-depend : (w w′ : List ℕ) (n : ℕ) (waiters : List ℕ) → n ≤ at.mostThreads → Standing n waiters → Same (WaiterWords n) w w′ → Holds w waitersChain waiters → Holds w′ waitersChain waiters
 waiters-depend w w′ n waiters few st same a = chain-depends w w′ waitersChain n waiters (omega arith) (λ y m. st .within y m .1) same a
 
 -- the numbers of queued DPCs

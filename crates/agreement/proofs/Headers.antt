@@ -5,6 +5,7 @@ use mathlib.Core.Option.{some}
 use mathlib.Core.Path.{_≡_, sym, _∙_, subst}
 use native.Mathlib.Omega.{arith}
 use lib.ListN.{set, length, length-set}
+use Rattle.words.specs.Layout as at
 use Rattle.images.specs.declared.Dpc.{Dpc}
 use Rattle.chains.specs.Ready.{waitersChain}
 use Rattle.model.specs.State.{State, Limits, Dispatcher, Counters, Thread, Object}
@@ -54,7 +55,7 @@ agree-from w s holder active h r sh = record {
 -- ---- sizes, for the bounds of places
 
 module _ (w : List ℕ) (s : State) (holder : ℕ → ℕ) (active : ℕ) (a : Agreeing w s holder active) where
-  pub threads-few : length (s .dispatcher .threads) ≤ 256
+  pub threads-few : length (s .dispatcher .threads) ≤ at.mostThreads
   threads-few = omega (arith, a .shape .sizes .threads-fit, a .shape .sizes .limits .threads)
 
   pub objects-few : length (s .dispatcher .objects) ≤ 4096
@@ -66,7 +67,7 @@ module _ (w : List ℕ) (s : State) (holder : ℕ → ℕ) (active : ℕ) (a : A
   -- words that differ in numbers of the header only
   pub rest-header : (w′ : List ℕ) → length w′ ≡ length w → Same (λ j. Numbers j → ⊥) w w′ → RestOf w′ s holder
   rest-header w′ len same = record {
-    enough = subst (λ (m : ℕ). 256 + 160 * s .limits .threads + 32 * (s .limits .objects + s .limits .dpcs) ≤ m) (sym len) (a .enough);
+    enough = subst (λ (m : ℕ). at.headerSize + at.threadSize * s .limits .threads + 32 * (s .limits .objects + s .limits .dpcs) ≤ m) (sym len) (a .enough);
     of-threads = threads-depend w w′ (s .dispatcher .threads) (λ j f. same j (λ h. omega (arith, h .small, f .here, f .one))) (a .threads);
     of-waits = waits-depend w w′ (s .dispatcher .threads) (a .shape .fit) (λ j f. same j (λ h. omega (arith, h .small, f .here, f .one))) (a .waits);
     of-placed = queues-depend w w′ (s .dispatcher .threads) (s .dispatcher .placed) threads-few (a .shape .ready-standing)
@@ -165,7 +166,7 @@ module _ (w : List ℕ) (s : State) (holder : ℕ → ℕ) (active : ℕ) (a : A
       len₂ : length w₂ ≡ length w₁
       len₂ = length-set w₁ 11 first
 
-      long : 256 ≤ length w
+      long : at.headerSize ≤ length w
       long = omega (arith, a .enough)
 
   -- ---- the six counts, each one more

@@ -36,12 +36,12 @@ module _ (w : List ℕ) (s : State) (holder : ℕ → ℕ) (active : ℕ) (a : A
 
   pub base-is : objectsBase w ≡ objectsFrom (s .limits)
   unfolding objectsBase
-  base-is = ap at.objectsAt (a .numbers 0 (s .limits .threads) refl) ∙ objects-place (s .limits .threads) (a .shape .sizes .limits .threads)
+  base-is = ap at.objectsAt (a .numbers at.threadLimit (s .limits .threads) refl) ∙ objects-place (s .limits .threads) (a .shape .sizes .limits .threads)
 
   pub dpcs-base-is : dpcsBase w ≡ dpcsFrom (s .limits)
   unfolding dpcsBase
   dpcs-base-is =
-      ap (λ (b : ℕ). at.entryAt b (getD w 1 0)) base-is ∙ ap (at.entryAt (objectsFrom (s .limits))) (a .numbers 1 (s .limits .objects) refl)
+      ap (λ (b : ℕ). at.entryAt b (getD w at.objectLimit 0)) base-is ∙ ap (at.entryAt (objectsFrom (s .limits))) (a .numbers at.objectLimit (s .limits .objects) refl)
       ∙ entry-place (objectsFrom (s .limits)) (s .limits .objects) (omega (arith, a .shape .sizes .limits .threads)) (omega (arith, a .shape .sizes .limits .objects))
 
   pub queue-chain-is : queueChain w ≡ queueFrom (dpcsFrom (s .limits))
@@ -50,15 +50,15 @@ module _ (w : List ℕ) (s : State) (holder : ℕ → ℕ) (active : ℕ) (a : A
 
   pub thread-count-is : words.threadCount w ≡ length (s .dispatcher .threads)
   unfolding words.threadCount
-  thread-count-is = simp (a .numbers 3 (length (s .dispatcher .threads)) refl, le-leb (length (s .dispatcher .threads)) 256 (threads-few w s holder active a))
+  thread-count-is = simp (a .numbers at.threads (length (s .dispatcher .threads)) refl, le-leb (length (s .dispatcher .threads)) at.mostThreads (threads-few w s holder active a))
 
   pub object-count-is : objectCount w ≡ length (s .dispatcher .objects)
   unfolding objectCount
-  object-count-is = simp (a .numbers 4 (length (s .dispatcher .objects)) refl, le-leb (length (s .dispatcher .objects)) 4096 (objects-few w s holder active a))
+  object-count-is = simp (a .numbers at.objects (length (s .dispatcher .objects)) refl, le-leb (length (s .dispatcher .objects)) 4096 (objects-few w s holder active a))
 
   pub dpc-count-is : dpcCount w ≡ length (s .dpcs .table)
   unfolding dpcCount
-  dpc-count-is = simp (a .numbers 5 (length (s .dpcs .table)) refl, le-leb (length (s .dpcs .table)) 4096 (dpcs-few w s holder active a))
+  dpc-count-is = simp (a .numbers at.dpcs (length (s .dpcs .table)) refl, le-leb (length (s .dpcs .table)) 4096 (dpcs-few w s holder active a))
 
   -- DPC `n` of the table is record `n - 1`
   pub place-is : (i : ℕ) → i < length (s .dpcs .table) → placeAt w (i + 1) ≡ dpcsFrom (s .limits) + 32 * i
@@ -80,10 +80,10 @@ module _ (w : List ℕ) (s : State) (holder : ℕ → ℕ) (active : ℕ) (a : A
   unfolding words.known
   known-is zero = refl
   known-is (suc id) =
-      simp (a .numbers 3 (length (s .dispatcher .threads)) refl, le-ltb (suc id) 1 (omega arith), ne-eqb (suc id) 0 (λ q. omega arith))
+      simp (a .numbers at.threads (length (s .dispatcher .threads)) refl, le-ltb (suc id) 1 (omega arith), ne-eqb (suc id) 0 (λ q. omega arith))
 
   module _ (id : ℕ) (one : 1 ≤ id) (le : id ≤ length (s .dispatcher .threads)) where
-    few : id ≤ 256
+    few : id ≤ at.mostThreads
     few = omega (arith, threads-few w s holder active a)
 
     -- word `k` of the record
@@ -110,29 +110,29 @@ module _ (w : List ℕ) (s : State) (holder : ℕ → ℕ) (active : ℕ) (a : A
       pub count-is : words.countOf w id ≡ length (x .objects)
       unfolding words.countOf
       count-is =
-          let n = ap (λ (p : ℕ). getD w p 0) (let q : at.threadAt id + 10 ≡ 102 + 160 * id + 4 = omega (arith, thread-place id few) in q) ∙ waits-for .terms 4 (length (x .objects)) refl in
+          let n = ap (λ (p : ℕ). getD w p 0) (let q : at.threadAt id + at.waitCount ≡ at.threadWord at.waitAll id + 4 = omega (arith, thread-place id few) in q) ∙ waits-for .terms 4 (length (x .objects)) refl in
           let fits = subst Rattle.agreement.specs.Shape.StatusFits e (a .shape .fit id one le .wait) in
           simp (n, le-leb (length (x .objects)) 64 (fits .few))
 
       pub all-is : words.allOf w id ≡ flag (x .all)
       unfolding words.allOf
-      all-is = ap (λ (p : ℕ). getD w p 0) (let q : at.threadAt id + 6 ≡ 102 + 160 * id + 0 = omega (arith, thread-place id few) in q) ∙ waits-for .terms 0 (flag (x .all)) refl
+      all-is = ap (λ (p : ℕ). getD w p 0) (let q : at.threadAt id + at.waitAll ≡ at.threadWord at.waitAll id + 0 = omega (arith, thread-place id few) in q) ∙ waits-for .terms 0 (flag (x .all)) refl
 
-      pub timed-is : getD w (at.threadAt id + 7) 0 ≡ timed (x .deadline)
-      timed-is = ap (λ (p : ℕ). getD w p 0) (let q : at.threadAt id + 7 ≡ 102 + 160 * id + 1 = omega (arith, thread-place id few) in q) ∙ waits-for .terms 1 (timed (x .deadline)) refl
+      pub timed-is : getD w (at.threadAt id + at.hasDeadline) 0 ≡ timed (x .deadline)
+      timed-is = ap (λ (p : ℕ). getD w p 0) (let q : at.threadAt id + at.hasDeadline ≡ at.threadWord at.waitAll id + 1 = omega (arith, thread-place id few) in q) ∙ waits-for .terms 1 (timed (x .deadline)) refl
 
-      pub deadline-is : (t : ℕ) → x .deadline ≡ some t → getD w (at.threadAt id + 8) 0 ≡ t
-      deadline-is t q = ap (λ (p : ℕ). getD w p 0) (let q : at.threadAt id + 8 ≡ 102 + 160 * id + 2 = omega (arith, thread-place id few) in q) ∙ waits-for .terms 2 t q
+      pub deadline-is : (t : ℕ) → x .deadline ≡ some t → getD w (at.threadAt id + at.deadline) 0 ≡ t
+      deadline-is t q = ap (λ (p : ℕ). getD w p 0) (let q : at.threadAt id + at.deadline ≡ at.threadWord at.waitAll id + 2 = omega (arith, thread-place id few) in q) ∙ waits-for .terms 2 t q
 
-      pub sequence-is : getD w (at.threadAt id + 9) 0 ≡ x .sequence
-      sequence-is = ap (λ (p : ℕ). getD w p 0) (let q : at.threadAt id + 9 ≡ 102 + 160 * id + 3 = omega (arith, thread-place id few) in q) ∙ waits-for .terms 3 (x .sequence) refl
+      pub sequence-is : getD w (at.threadAt id + at.waitSequence) 0 ≡ x .sequence
+      sequence-is = ap (λ (p : ℕ). getD w p 0) (let q : at.threadAt id + at.waitSequence ≡ at.threadWord at.waitAll id + 3 = omega (arith, thread-place id few) in q) ∙ waits-for .terms 3 (x .sequence) refl
 
       -- the pair at position `k` of its list
       pub pair-is : (k : ℕ) (n : Named) → nth (x .objects) k ≡ some n → (kindIn w (words.placesAt id) k ≡ n .kind) × (keyIn w (words.placesAt id) k ≡ n .key)
       unfolding kindIn keyIn words.placesAt
       pair-is k n q = (
-        ap (λ (p : ℕ). getD w p 0) (let z : at.threadAt id + 32 + 2 * k ≡ 128 + 160 * id + 2 * k = omega (arith, thread-place id few) in z) ∙ waits-for .places (2 * k) (n .kind) (kinds (x .objects) k q),
-        ap (λ (p : ℕ). getD w p 0) (let z : at.threadAt id + 32 + (2 * k + 1) ≡ 128 + 160 * id + (2 * k + 1) = omega (arith, thread-place id few) in z) ∙ waits-for .places (2 * k + 1) (n .key) (keys (x .objects) k q),
+        ap (λ (p : ℕ). getD w p 0) (let z : at.threadAt id + at.waitPlaces + 2 * k ≡ at.threadWord at.waitPlaces id + 2 * k = omega (arith, thread-place id few) in z) ∙ waits-for .places (2 * k) (n .kind) (kinds (x .objects) k q),
+        ap (λ (p : ℕ). getD w p 0) (let z : at.threadAt id + at.waitPlaces + (2 * k + 1) ≡ at.threadWord at.waitPlaces id + (2 * k + 1) = omega (arith, thread-place id few) in z) ∙ waits-for .places (2 * k + 1) (n .key) (keys (x .objects) k q),
       )
         where
           kinds : (l : List Named) (k : ℕ) → nth l k ≡ some n → getD (placesRow l) (2 * k) none ≡ some (n .kind)
@@ -179,7 +179,7 @@ module _ (w : List ℕ) (s : State) (holder : ℕ → ℕ) (active : ℕ) (a : A
       ≡ given (objectAt (s .dispatcher .objects) k) 0 (λ x. cond (eqb (kindOf x) kind) (objectsFrom (s .limits) + 32 * below keyOf k (s .dispatcher .objects)) 0)
   place-of kind k =
       tables.place-is keyOf w (objectsFrom (s .limits)) (s .dispatcher .objects) low (omega arith) (base-is w s holder active a)
-      (a .numbers 4 (length (s .dispatcher .objects)) refl) (objects-few w s holder active a) (a .shape .rising) object-keys kindOf object-kinds kind k
+      (a .numbers at.objects (length (s .dispatcher .objects)) refl) (objects-few w s holder active a) (a .shape .rising) object-keys kindOf object-kinds kind k
 
   -- an object that the log finds
   pub object-place : (k : ℕ) (x : Object) → objectAt (s .dispatcher .objects) k ≡ some x
@@ -196,12 +196,12 @@ module _ (w : List ℕ) (s : State) (holder : ℕ → ℕ) (active : ℕ) (a : A
   pub dpc-place : (k : ℕ) (d : Dpc) → dpcAt (s .dpcs .table) k ≡ some d → dpcFound w k ≡ dpcsFrom (s .limits) + 32 * below addressOf k (s .dpcs .table)
   dpc-place k d e =
       tables.dpc-found addressOf w (dpcsFrom (s .limits)) (s .dpcs .table) low′ (omega arith) (dpcs-base-is w s holder active a)
-      (a .numbers 5 (length (s .dpcs .table)) refl) (dpcs-few w s holder active a) (a .shape .dpcs .rising) dpc-keys k d e
+      (a .numbers at.dpcs (length (s .dpcs .table)) refl) (dpcs-few w s holder active a) (a .shape .dpcs .rising) dpc-keys k d e
 
   pub dpc-number : (k : ℕ) (d : Dpc) → dpcAt (s .dpcs .table) k ≡ some d → numberOf w k ≡ below addressOf k (s .dpcs .table) + 1
   dpc-number k d e =
       tables.number-found addressOf w (dpcsFrom (s .limits)) (s .dpcs .table) low′ (omega arith) (dpcs-base-is w s holder active a)
-      (a .numbers 5 (length (s .dpcs .table)) refl) (dpcs-few w s holder active a) (a .shape .dpcs .rising) dpc-keys k d e
+      (a .numbers at.dpcs (length (s .dpcs .table)) refl) (dpcs-few w s holder active a) (a .shape .dpcs .rising) dpc-keys k d e
 
   pub dpc-row : (k : ℕ) (d : Dpc) → dpcAt (s .dpcs .table) k ≡ some d
       → Row w (dpcsFrom (s .limits) + 32 * below addressOf k (s .dpcs .table)) (dpcRow (holder (d .address)) d)

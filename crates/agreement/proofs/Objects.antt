@@ -7,6 +7,7 @@ use mathlib.Core.Logic.{_⊎_, inl, inr, ⊎-elim}
 use mathlib.Core.Path.{_≡_, refl, sym, ap, _∙_, subst}
 use native.Mathlib.Omega.{arith}
 use lib.ListN.{set}
+use Rattle.words.specs.Layout as at
 use Rattle.images.specs.declared.Timer.{Timer}
 use Rattle.images.specs.declared.Dpc.{Dpc}
 use Rattle.objects.specs.Objects.{placeOf}
@@ -48,23 +49,23 @@ module _ (w : List ℕ) (s : State) (holder : ℕ → ℕ) (active : ℕ) (a : A
 
   -- a mutex gets an owner
   pub sim-owner : (m : Mutex) (id : ℕ) → objectAt (s .dispatcher .objects) (m .key) ≡ some (mutex m)
-      → Agreeing (set w (placeOf w 0 (m .key) + 4) id) (withTable s (putObject (ownedBy id m) (s .dispatcher .objects))) holder active
+      → Agreeing (set w (placeOf w 0 (m .key) + at.owner) id) (withTable s (putObject (ownedBy id m) (s .dispatcher .objects))) holder active
   sim-owner m id e =
-      subst (λ (p : ℕ). Agreeing (set w (p + 4) id) (withTable s (putObject (ownedBy id m) (s .dispatcher .objects))) holder active) (sym (object-place w s holder active a (m .key) (mutex m) e))
+      subst (λ (p : ℕ). Agreeing (set w (p + at.owner) id) (withTable s (putObject (ownedBy id m) (s .dispatcher .objects))) holder active) (sym (object-place w s holder active a (m .key) (mutex m) e))
       (sim-put-object (mutex m) (ownedBy id m) (store 4 id ∷ []) e tt (omega arith, tt) refl)
 
   -- an event is signaled or not
   pub sim-signal : (v : Event) (b : Bool) → objectAt (s .dispatcher .objects) (v .key) ≡ some (event v)
-      → Agreeing (set w (placeOf w 1 (v .key) + 3) (flag b)) (withTable s (putObject (signaledAs b v) (s .dispatcher .objects))) holder active
+      → Agreeing (set w (placeOf w 1 (v .key) + at.signaled) (flag b)) (withTable s (putObject (signaledAs b v) (s .dispatcher .objects))) holder active
   sim-signal v b e =
-      subst (λ (p : ℕ). Agreeing (set w (p + 3) (flag b)) (withTable s (putObject (signaledAs b v) (s .dispatcher .objects))) holder active) (sym (object-place w s holder active a (v .key) (event v) e))
+      subst (λ (p : ℕ). Agreeing (set w (p + at.signaled) (flag b)) (withTable s (putObject (signaledAs b v) (s .dispatcher .objects))) holder active) (sym (object-place w s holder active a (v .key) (event v) e))
       (sim-put-object (event v) (signaledAs b v) (store 3 (flag b) ∷ []) e tt (omega arith, tt) refl)
 
   -- and a timer
   pub sim-timer-signal : (t : Timer) (b : Bool) → objectAt (s .dispatcher .objects) (t .address) ≡ some (timer t)
-      → Agreeing (set w (placeOf w 2 (t .address) + 3) (flag b)) (withTable s (putObject (timer (withSignal t b)) (s .dispatcher .objects))) holder active
+      → Agreeing (set w (placeOf w 2 (t .address) + at.signaled) (flag b)) (withTable s (putObject (timer (withSignal t b)) (s .dispatcher .objects))) holder active
   sim-timer-signal t b e =
-      subst (λ (p : ℕ). Agreeing (set w (p + 3) (flag b)) (withTable s (putObject (timer (withSignal t b)) (s .dispatcher .objects))) holder active)
+      subst (λ (p : ℕ). Agreeing (set w (p + at.signaled) (flag b)) (withTable s (putObject (timer (withSignal t b)) (s .dispatcher .objects))) holder active)
       (sym (object-place w s holder active a (t .address) (timer t) e))
       (sim-put-object (timer t) (timer (withSignal t b)) (store 3 (flag b) ∷ []) e (a .shape .bounded (t .address) (timer t) e) (omega arith, tt) refl)
 

@@ -9,6 +9,7 @@ use native.Mathlib.Decide.{ℕ-discrete}
 use borrow.Author.Tests.{ltb-false}
 use lib.Dec.{ltb}
 use lib.ListN.{getD, set, length, length-set}
+use Rattle.words.specs.Layout as at
 use Rattle.threads.specs.Thread.{putThread, putWait, noWait}
 use Rattle.chains.specs.declared.Chain.{Chain}
 use Rattle.opening.specs.Open.{badPriority, badLimits, wordsNeeded, openRefusal, cleared, limited, started}
@@ -38,13 +39,13 @@ pub record Accepted (w : List ℕ) (p t o d : ℕ) : Type 0 where
   pub one : 1 ≤ p
   pub small : p ≤ 31
   pub limits : LimitsValid (record { threads = t; objects = o; dpcs = d })
-  pub enough : 256 + 160 * t + 32 * (o + d) ≤ length w
+  pub enough : at.headerSize + at.threadSize * t + 32 * (o + d) ≤ length w
 
 pub accepted : (w : List ℕ) (p t o d : ℕ) → openRefusal w p t o d ≡ 0 → Accepted w p t o d
 unfolding openRefusal badPriority badLimits
-accepted w p t o d = go (ltb p 1) (ltb 31 p) (ltb t 1) (ltb 256 t) (ltb 4096 o) (ltb 4096 d) (ltb (length w) (wordsNeeded t o d)) refl refl refl refl refl refl refl
+accepted w p t o d = go (ltb p 1) (ltb 31 p) (ltb t 1) (ltb at.mostThreads t) (ltb 4096 o) (ltb 4096 d) (ltb (length w) (wordsNeeded t o d)) refl refl refl refl refl refl refl
   where
-    go : (a b c e f g h : Bool) → ltb p 1 ≡ a → ltb 31 p ≡ b → ltb t 1 ≡ c → ltb 256 t ≡ e → ltb 4096 o ≡ f → ltb 4096 d ≡ g → ltb (length w) (wordsNeeded t o d) ≡ h
+    go : (a b c e f g h : Bool) → ltb p 1 ≡ a → ltb 31 p ≡ b → ltb t 1 ≡ c → ltb at.mostThreads t ≡ e → ltb 4096 o ≡ f → ltb 4096 d ≡ g → ltb (length w) (wordsNeeded t o d) ≡ h
         → _≡_ {A = ℕ} (cond (cond a true b) 1 (cond (cond c true (cond e true (cond f true g))) 27 (cond h 27 0))) 0 → Accepted w p t o d
     go true b c e f g h q₁ q₂ q₃ q₄ q₅ q₆ q₇ q = absurd (omega arith)
     go false true c e f g h q₁ q₂ q₃ q₄ q₅ q₆ q₇ q = absurd (omega arith)
@@ -56,7 +57,7 @@ accepted w p t o d = go (ltb p 1) (ltb 31 p) (ltb t 1) (ltb 256 t) (ltb 4096 o) 
     go false false false false false false false q₁ q₂ q₃ q₄ q₅ q₆ q₇ q = record {
       one = ltb-false p 1 q₁;
       small = ltb-false 31 p q₂;
-      limits = record { some-thread = ltb-false t 1 q₃; threads = ltb-false 256 t q₄; objects = ltb-false 4096 o q₅; dpcs = ltb-false 4096 d q₆ };
+      limits = record { some-thread = ltb-false t 1 q₃; threads = ltb-false at.mostThreads t q₄; objects = ltb-false 4096 o q₅; dpcs = ltb-false 4096 d q₆ };
       enough = ltb-false (length w) (wordsNeeded t o d) q₇;
     }
 
@@ -117,7 +118,7 @@ module _ (w : List ℕ) (p t o d : ℕ) (h : Accepted w p t o d) where
   one-thread = record { priority = p; status = running; result = none }
 
   abbrev w₀ : List ℕ
-  w₀ = cleared 96 w
+  w₀ = cleared at.unused w
 
   abbrev w₁ : List ℕ
   w₁ = written w₀ 0 (limitStores t o d)
@@ -132,7 +133,7 @@ module _ (w : List ℕ) (p t o d : ℕ) (h : Accepted w p t o d) where
   long = omega (arith, h .enough, h .limits .some-thread)
 
   len₁ : length w₁ ≡ length w
-  len₁ = length-written w₀ 0 (limitStores t o d) ∙ cleared-length 96 w
+  len₁ = length-written w₀ 0 (limitStores t o d) ∙ cleared-length at.unused w
 
   len₂ : length w₂ ≡ length w
   len₂ = length-wait w₁ 1 noWait (omega arith) ∙ len₁
@@ -141,31 +142,31 @@ module _ (w : List ℕ) (p t o d : ℕ) (h : Accepted w p t o d) where
   len₃ = length-thread w₂ 1 (storedOf one-thread) (omega arith) ∙ len₂
 
   -- the first 96 words are not of the thread
-  front : Same (λ j. j < 96) w₁ w₃
+  front : Same (λ j. j < at.unused) w₁ w₃
   front j l = thread-writes w₂ 1 (storedOf one-thread) (omega arith) j (λ k. omega (arith, k .here))
       ∙ wait-writes w₁ 1 noWait (omega arith) (wait-in-form .few) j (λ k. omega (arith, k .here))
 
   -- the words of limits, counts and the current thread aside they are 0
-  empty : (j : ℕ) → 7 ≤ j → j < 96 → getD w₃ j 0 ≡ 0
+  empty : (j : ℕ) → 7 ≤ j → j < at.unused → getD w₃ j 0 ≡ 0
   empty j a b = front j b
       ∙ written-outside (λ i. 7 ≤ i) (λ k. k < 7) w₀ 0 (limitStores t o d) (omega arith, (omega arith, (omega arith, (omega arith, (omega arith, tt))))) (λ k l q. omega arith) j a
-      ∙ cleared-read 96 w j (omega (arith, long)) b
+      ∙ cleared-read at.unused w j (omega (arith, long)) b
 
   numbers : Row w₃ 0 (header (record { threads = t; objects = o; dpcs = d }) 1 0 0 1 0 0 unselected noCounts 0 0 0)
   numbers = row-depends w₁ w₃ 0 (header (record { threads = t; objects = o; dpcs = d }) 1 0 0 1 0 0 unselected noCounts 0 0 0)
       (λ j x. let q : x .word < 26 = says-short (header (record { threads = t; objects = o; dpcs = d }) 1 0 0 1 0 0 unselected noCounts 0 0 0) (x .word) (x .holds) (x .says) in
       front j (omega (arith, x .here)))
       (row-written (λ k. k < 7) w₀ 0 bare (limitStores t o d) (omega arith, (omega arith, (omega arith, (omega arith, (omega arith, tt)))))
-      (λ k l. omega (arith, cleared-length 96 w, long))
-      (λ k n e. let r = nought bare no-noughts k n e in let q : k < 26 = r .1 in cleared-read 96 w (0 + k) (omega (arith, long)) (omega arith) ∙ sym (r .0)))
+      (λ k l. omega (arith, cleared-length at.unused w, long))
+      (λ k n e. let r = nought bare no-noughts k n e in let q : k < 26 = r .1 in cleared-read at.unused w (0 + k) (omega (arith, long)) (omega arith) ∙ sym (r .0)))
 
   pub agree-started : Agree (started w p t o d) (opened p t o d)
   unfolding started limited opened
   agree-started = record {
-    enough = subst (λ (m : ℕ). 256 + 160 * t + 32 * (o + d) ≤ m) (sym len₃) (h .enough);
+    enough = subst (λ (m : ℕ). at.headerSize + at.threadSize * t + 32 * (o + d) ≤ m) (sym len₃) (h .enough);
     numbers = numbers;
     threads = λ i a b. let e : i ≡ 1 = omega arith in
-        subst (λ (j : ℕ). Row w₃ (96 + 160 * j) (threadRow (threadAt (one-thread ∷ []) j))) (sym e) (thread-shows w₂ 1 one-thread (omega arith) (omega (arith, len₂, long)));
+        subst (λ (j : ℕ). Row w₃ (at.threadFrom j) (threadRow (threadAt (one-thread ∷ []) j))) (sym e) (thread-shows w₂ 1 one-thread (omega arith) (omega (arith, len₂, long)));
     waits = record {
       kept = λ i a b. let e : i ≡ 1 = omega arith in subst (WaitKept w₃) (sym e)
           (kept-depends w₂ w₃ 1 (λ j f. thread-writes w₂ 1 (storedOf one-thread) (omega arith) j (λ k. omega (arith, k .here, k .has .small, f .here, f .has .from)))
@@ -174,10 +175,10 @@ module _ (w : List ℕ) (p t o d : ℕ) (h : Accepted w p t o d) where
     };
     queues = ready-none w₃ (empty 9 (omega arith) (omega arith)) (λ q b. (empty (32 + q) (omega arith) (omega arith), empty (64 + q) (omega arith) (omega arith)));
     waiters = subst (λ (c : Chain). Holds w₃ c []) (sym waiters-chain)
-        (holds-none w₃ (record { first = 21; last = 22; link = 99; stride = 160 }) (empty 21 (omega arith) (omega arith)) (empty 22 (omega arith) (omega arith)));
+        (holds-none w₃ (record { first = at.waitersFirst; last = at.waitersLast; link = at.waitersLink; stride = at.threadSize }) (empty 21 (omega arith) (omega arith)) (empty 22 (omega arith) (omega arith)));
     objects = λ i x e. absurd (none-some x e);
     dpcs = λ i x e. absurd (none-some x e);
-    work = holds-none w₃ (queueFrom (256 + 160 * t + 32 * o)) (empty 23 (omega arith) (omega arith)) (empty 24 (omega arith) (omega arith));
+    work = holds-none w₃ (queueFrom (at.headerSize + at.threadSize * t + 32 * o)) (empty 23 (omega arith) (omega arith)) (empty 24 (omega arith) (omega arith));
     shape = record {
       sizes = record { limits = h .limits; threads-fit = h .limits .some-thread; objects-fit = zero-le; dpcs-fit = zero-le };
       fit = λ i a b. let e : i ≡ 1 = omega arith in subst (λ (j : ℕ). ThreadFits (threadAt (one-thread ∷ []) j)) (sym e) (record { one = h .one; small = h .small; wait = tt });

@@ -16,13 +16,13 @@ use Rattle.agreement.specs.Chains.{queueFrom}
 
 -- ---- where the code's places stand
 
-pub thread-place : (id : ℕ) → id ≤ 256 → at.threadAt id ≡ 96 + 160 * id
+pub thread-place : (id : ℕ) → id ≤ at.mostThreads → at.threadAt id ≡ at.threadFrom id
 unfolding at.threadAt
-thread-place id h = simp (le-leb id 256 h)
+thread-place id h = simp (le-leb id at.mostThreads h)
 
-pub objects-place : (t : ℕ) → t ≤ 256 → objectsAt t ≡ 256 + 160 * t
+pub objects-place : (t : ℕ) → t ≤ at.mostThreads → objectsAt t ≡ at.headerSize + at.threadSize * t
 unfolding objectsAt
-objects-place t h = simp (le-leb t 256 h)
+objects-place t h = simp (le-leb t at.mostThreads h)
 
 pub entry-place : (base i : ℕ) → base ≤ 1000000 → i ≤ 8192 → entryAt base i ≡ base + 32 * i
 unfolding entryAt
@@ -33,7 +33,7 @@ entry-place base i h k = simp (le-leb base 1000000 h, le-leb i 8192 k)
 -- the header's numbers: all but the ready word and the ends of chains
 pub record Numbers (j : ℕ) : Type 0 where
   pub small : j ≤ 25
-  pub no-ready : j ≡ 9 → ⊥
+  pub no-ready : j ≡ at.ready → ⊥
   pub no-end : 21 ≤ j → j ≤ 24 → ⊥
 
 -- the words `d` of the records of threads 1 to `n`, for `d` with a property
@@ -43,7 +43,7 @@ pub record Field (n : ℕ) (D : ℕ → Type 0) (j : ℕ) : Type 0 where
   pub one : 1 ≤ id
   pub le : id ≤ n
   pub has : D word
-  pub here : j ≡ 96 + 160 * id + word
+  pub here : j ≡ at.threadFrom id + word
 
 -- priority, state, result and exit status; words 2 and 3 are links
 pub record Scalar (d : ℕ) : Type 0 where
@@ -53,8 +53,8 @@ pub record Scalar (d : ℕ) : Type 0 where
 
 -- the wait
 pub record Waiting (d : ℕ) : Type 0 where
-  pub from : 6 ≤ d
-  pub to : d < 160
+  pub from : at.waitAll ≤ d
+  pub to : d < at.threadSize
 
 -- what is not a link of the record of one thread
 pub record Own (d : ℕ) : Type 0 where
@@ -97,7 +97,7 @@ ChainWords c n j = (j ≡ c .first) ⊎ ((j ≡ c .last) ⊎ Link (c .link) (c .
 
 -- the ready word, first and last of each priority, and word 2 of thread records
 abbrev pub ReadyWords : ℕ → ℕ → Type 0
-ReadyWords n j = (j ≡ 9) ⊎ (((32 ≤ j) × (j < 96)) ⊎ Link 98 160 n j)
+ReadyWords n j = (j ≡ at.ready) ⊎ (((32 ≤ j) × (j < at.unused)) ⊎ Link at.readyLink at.threadSize n j)
 
 abbrev pub WaiterWords : ℕ → ℕ → Type 0
 WaiterWords n j = ChainWords waitersChain n j
@@ -107,11 +107,11 @@ QueueWords base n j = ChainWords (queueFrom base) n j
 
 -- ---- the places of the ready queues are these words
 
-pub ready-place : (n j : ℕ) → n ≤ 256 → ReadyPlace n j → ReadyWords n j
+pub ready-place : (n j : ℕ) → n ≤ at.mostThreads → ReadyPlace n j → ReadyWords n j
 ready-place n j few (inl e) = inl e
 ready-place n j few (inr (p, one, h, m)) = go (chains.ready-cases n j few p h m)
   where
-    go : (j ≡ 64 + p) ⊎ ((j ≡ 32 + p) ⊎ ((y : ℕ) × (1 ≤ y) × (y ≤ n) × (j ≡ 98 + 160 * y))) → ReadyWords n j
+    go : (j ≡ 64 + p) ⊎ ((j ≡ 32 + p) ⊎ ((y : ℕ) × (1 ≤ y) × (y ≤ n) × (j ≡ at.threadWord at.nextReady y))) → ReadyWords n j
     go (inl e) = inr (inl (omega arith, omega arith))
     go (inr (inl e)) = inr (inl (omega arith, omega arith))
     go (inr (inr (y, a, b, e))) = inr (inr (record { number = y; one = a; le = b; here = e }))
@@ -125,25 +125,25 @@ chain-place c n j few m = go (place-cases c n j few m)
     go (inr (inl e)) = inl e
     go (inr (inr (y, a, b, e))) = inr (inr (record { number = y; one = a; le = b; here = e }))
 
-pub waiters-chain : waitersChain ≡ record { first = 21; last = 22; link = 99; stride = 160 }
+pub waiters-chain : waitersChain ≡ record { first = at.waitersFirst; last = at.waitersLast; link = at.waitersLink; stride = at.threadSize }
 unfolding waitersChain
 waiters-chain = refl
 
 -- ---- regions apart, each pair by the bounds of its places
 
 -- a region that has no place of the header's numbers, nor of the records of threads, objects and DPCs said by words
-pub waiter-cases : (P : Type 0) (n j : ℕ) → WaiterWords n j → (j ≡ 21 → P) → (j ≡ 22 → P) → (Link 99 160 n j → P) → P
+pub waiter-cases : (P : Type 0) (n j : ℕ) → WaiterWords n j → (j ≡ at.waitersFirst → P) → (j ≡ at.waitersLast → P) → (Link at.waitersLink at.threadSize n j → P) → P
 unfolding waitersChain
 waiter-cases P n j (inl e) a b c = a e
 waiter-cases P n j (inr (inl e)) a b c = b e
 waiter-cases P n j (inr (inr l)) a b c = c l
 
-pub ready-cases : (P : Type 0) (n j : ℕ) → ReadyWords n j → (j ≡ 9 → P) → (32 ≤ j → j < 96 → P) → (Link 98 160 n j → P) → P
+pub ready-cases : (P : Type 0) (n j : ℕ) → ReadyWords n j → (j ≡ at.ready → P) → (32 ≤ j → j < at.unused → P) → (Link at.readyLink at.threadSize n j → P) → P
 ready-cases P n j (inl e) a b c = a e
 ready-cases P n j (inr (inl h)) a b c = b (h .0) (h .1)
 ready-cases P n j (inr (inr l)) a b c = c l
 
-pub queue-cases : (P : Type 0) (base n j : ℕ) → QueueWords base n j → (j ≡ 23 → P) → (j ≡ 24 → P) → (Link (base - 30) 32 n j → P) → P
+pub queue-cases : (P : Type 0) (base n j : ℕ) → QueueWords base n j → (j ≡ at.queueFirst → P) → (j ≡ at.queueLast → P) → (Link (base - at.queueLinkBefore) 32 n j → P) → P
 queue-cases P base n j (inl e) a b c = a e
 queue-cases P base n j (inr (inl e)) a b c = b e
 queue-cases P base n j (inr (inr l)) a b c = c l

@@ -9,6 +9,7 @@ use native.Mathlib.Decide.{ℕ-discrete}
 use borrow.Author.Tests.{eq-eqb, ne-eqb}
 use lib.Dec.{eqb}
 use lib.ListN.{length}
+use Rattle.words.specs.Layout as at
 use Rattle.images.specs.declared.Dpc.{Dpc}
 use Rattle.chains.specs.declared.Chain.{Chain}
 use Rattle.chains.specs.Chain.{pushed, removed, unlinked}
@@ -80,7 +81,7 @@ module _ (w : List ℕ) (s : State) (holder : ℕ → ℕ) (active : ℕ) (a : A
       → Holds w′ (queueFrom (dpcsFrom (s .limits))) (numbersIn (s .dpcs .table) queue′) → DpcsFit (s .dpcs .table) queue′
       → Agreeing w′ (withDpcs s (record { table = s .dpcs .table; queue = queue′; counters = s .dpcs .counters })) holder active
   queue-step w′ queue′ len same hs f = record {
-    enough = subst (λ (m : ℕ). 256 + 160 * s .limits .threads + 32 * (s .limits .objects + s .limits .dpcs) ≤ m) (sym len) (a .enough);
+    enough = subst (λ (m : ℕ). at.headerSize + at.threadSize * s .limits .threads + 32 * (s .limits .objects + s .limits .dpcs) ≤ m) (sym len) (a .enough);
     numbers = front .numbers;
     threads = front .threads;
     waits = front .waits;

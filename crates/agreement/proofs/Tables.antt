@@ -7,6 +7,7 @@ use mathlib.Core.Path.{_≡_, refl, sym, ap, _∙_, subst}
 use native.Mathlib.Omega.{arith}
 use native.Mathlib.Decide.{ℕ-discrete}
 use lib.ListN.{getD, length}
+use Rattle.words.specs.Layout as at
 use Rattle.images.specs.declared.Dpc.{Dpc}
 use Rattle.chains.specs.Ready.{waitersChain}
 use Rattle.model.specs.Lists.{nth}
@@ -39,17 +40,17 @@ pub record Front (w : List ℕ) (s : State) (active : ℕ) : Type 0 where
 
 module _ (w : List ℕ) (s : State) (holder : ℕ → ℕ) (active : ℕ) (a : Agreeing w s holder active) where
   -- words 23 and 24, the ends of the DPC queue, are none of it
-  pub front-stays : (w′ : List ℕ) → Same (λ j. (j < 256 + 160 * s .limits .threads) × (j ≡ 23 → ⊥) × (j ≡ 24 → ⊥)) w w′ → Front w′ s active
+  pub front-stays : (w′ : List ℕ) → Same (λ j. (j < at.headerSize + at.threadSize * s .limits .threads) × (j ≡ 23 → ⊥) × (j ≡ 24 → ⊥)) w w′ → Front w′ s active
   front-stays w′ same = record {
     numbers = numbers-depend w w′ s active (λ j h. same j (omega (arith, h .small), λ e. h .no-end (omega arith) (omega arith), λ e. h .no-end (omega arith) (omega arith))) (a .numbers);
     threads = threads-depend w w′ (s .dispatcher .threads) (λ j f. same j (omega (arith, f .here, f .has .small, f .le, fit), λ e. omega (arith, f .here), λ e. omega (arith, f .here))) (a .threads);
     waits = waits-depend w w′ (s .dispatcher .threads) (a .shape .fit) (λ j f. same j (omega (arith, f .here, f .has .to, f .le, fit), λ e. omega (arith, f .here), λ e. omega (arith, f .here))) (a .waits);
     queues = queues-depend w w′ (s .dispatcher .threads) (s .dispatcher .placed) (threads-few w s holder active a) (a .shape .ready-standing)
-        (λ j r. same j (ready-cases ((j < 256 + 160 * s .limits .threads) × (j ≡ 23 → ⊥) × (j ≡ 24 → ⊥)) n j r
+        (λ j r. same j (ready-cases ((j < at.headerSize + at.threadSize * s .limits .threads) × (j ≡ 23 → ⊥) × (j ≡ 24 → ⊥)) n j r
         (λ e. (omega arith, λ q. omega arith, λ q. omega arith)) (λ x y. (omega arith, λ q. omega arith, λ q. omega arith))
         (λ l. (omega (arith, l .here, l .le, fit), λ q. omega (arith, l .here), λ q. omega (arith, l .here))))) (a .queues);
     waiters = waiters-depend w w′ n (s .dispatcher .waiters) (threads-few w s holder active a) (a .shape .waiting-standing)
-        (λ j r. same j (waiter-cases ((j < 256 + 160 * s .limits .threads) × (j ≡ 23 → ⊥) × (j ≡ 24 → ⊥)) n j r
+        (λ j r. same j (waiter-cases ((j < at.headerSize + at.threadSize * s .limits .threads) × (j ≡ 23 → ⊥) × (j ≡ 24 → ⊥)) n j r
         (λ e. (omega arith, λ q. omega arith, λ q. omega arith)) (λ e. (omega arith, λ q. omega arith, λ q. omega arith))
         (λ l. (omega (arith, l .here, l .le, fit), λ q. omega (arith, l .here), λ q. omega (arith, l .here))))) (a .waiters);
   }
@@ -69,7 +70,7 @@ module _ (w : List ℕ) (s : State) (holder : ℕ → ℕ) (active : ℕ) (a : A
       → Row (written w (objectsFrom (s .limits) + 32 * i) xs) (objectsFrom (s .limits) + 32 * i) (objectRow x′)
       → Agreeing (written w (objectsFrom (s .limits) + 32 * i) xs) (withTable s l′) holder active
   sim-object i x′ l′ xs below own others size rising bounded inside row = record {
-    enough = subst (λ (m : ℕ). 256 + 160 * s .limits .threads + 32 * (s .limits .objects + s .limits .dpcs) ≤ m) (sym (length-written w place xs)) (a .enough);
+    enough = subst (λ (m : ℕ). at.headerSize + at.threadSize * s .limits .threads + 32 * (s .limits .objects + s .limits .dpcs) ≤ m) (sym (length-written w place xs)) (a .enough);
     numbers = subst (λ (m : ℕ). Row w′ 0 (header (s .limits) (length (s .dispatcher .threads)) m (length (s .dpcs .table))
         (s .dispatcher .current) (s .dispatcher .sequence) (s .now) (s .policy) (s .dpcs .counters) (s .timerInitializations) (s .dpcInitializations) active)) (sym size) (front .numbers);
     threads = front .threads;
@@ -131,7 +132,7 @@ module _ (w : List ℕ) (s : State) (holder : ℕ → ℕ) (active : ℕ) (a : A
       → Row (written w (dpcsFrom (s .limits) + 32 * i) xs) (dpcsFrom (s .limits) + 32 * i) (dpcRow (holder′ (d′ .address)) d′)
       → Agreeing (written w (dpcsFrom (s .limits) + 32 * i) xs) (withDpcs s (record { table = table′; queue = s .dpcs .queue; counters = s .dpcs .counters })) holder′ active
   sim-dpc i d′ table′ holder′ xs below own others size held numbered fits inside row = record {
-    enough = subst (λ (m : ℕ). 256 + 160 * s .limits .threads + 32 * (s .limits .objects + s .limits .dpcs) ≤ m) (sym (length-written w place xs)) (a .enough);
+    enough = subst (λ (m : ℕ). at.headerSize + at.threadSize * s .limits .threads + 32 * (s .limits .objects + s .limits .dpcs) ≤ m) (sym (length-written w place xs)) (a .enough);
     numbers = subst (λ (m : ℕ). Row w′ 0 (header (s .limits) (length (s .dispatcher .threads)) (length (s .dispatcher .objects)) m
         (s .dispatcher .current) (s .dispatcher .sequence) (s .now) (s .policy) (s .dpcs .counters) (s .timerInitializations) (s .dpcInitializations) active)) (sym size) (front .numbers);
     threads = front .threads;

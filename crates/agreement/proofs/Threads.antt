@@ -5,6 +5,7 @@ use mathlib.Core.Path.{_≡_, refl, sym, ap, _∙_, subst}
 use native.Mathlib.Omega.{arith}
 use native.Mathlib.Decide.{ℕ-discrete}
 use lib.ListN.{length}
+use Rattle.words.specs.Layout as at
 use Rattle.threads.specs.declared.Thread as stored
 use Rattle.threads.specs.Thread.{putThread}
 use Rattle.chains.specs.Ready.{waitersChain}
@@ -30,7 +31,7 @@ use Rattle.agreement.proofs.Headers.{threads-few, dpcs-few}
 -- ---- what stays when words of one record are written that are no links
 
 module _ (w : List ℕ) (s : State) (holder : ℕ → ℕ) (active : ℕ) (a : Agreeing w s holder active) (id : ℕ) (one : 1 ≤ id) (le : id ≤ length (s .dispatcher .threads)) (w′ : List ℕ)
-    (len : length w′ ≡ length w) (same : Same (λ j. Inner (96 + 160 * id) Own j → ⊥) w w′) where
+    (len : length w′ ≡ length w) (same : Same (λ j. Inner (at.threadFrom id) Own j → ⊥) w w′) where
   abbrev n : ℕ
   n = length (s .dispatcher .threads)
 
@@ -38,7 +39,7 @@ module _ (w : List ℕ) (s : State) (holder : ℕ → ℕ) (active : ℕ) (a : A
   fit = a .shape .sizes .threads-fit
 
   pub stays-enough : Enough w′ (s .limits)
-  stays-enough = subst (λ (m : ℕ). 256 + 160 * s .limits .threads + 32 * (s .limits .objects + s .limits .dpcs) ≤ m) (sym len) (a .enough)
+  stays-enough = subst (λ (m : ℕ). at.headerSize + at.threadSize * s .limits .threads + 32 * (s .limits .objects + s .limits .dpcs) ≤ m) (sym len) (a .enough)
 
   pub stays-numbers : Row w′ 0 (headerOf s active)
   stays-numbers = numbers-depend w w′ s active (λ j h. same j (λ o. omega (arith, h .small, o .here))) (a .numbers)
@@ -63,8 +64,8 @@ module _ (w : List ℕ) (s : State) (holder : ℕ → ℕ) (active : ℕ) (a : A
       (λ e. omega (arith, o .here)) (λ e. omega (arith, o .here)) (λ l. omega (arith, o .here, o .has .small, l .here, l .one, fit)))) (a .work)
 
   -- the record of another thread
-  pub stays-thread : (i : ℕ) → 1 ≤ i → i ≤ length (s .dispatcher .threads) → (i ≡ id → ⊥) → Row w′ (96 + 160 * i) (threadRow (threadAt (s .dispatcher .threads) i))
-  stays-thread i h k ne = row-depends w w′ (96 + 160 * i) (threadRow (threadAt (s .dispatcher .threads) i))
+  pub stays-thread : (i : ℕ) → 1 ≤ i → i ≤ length (s .dispatcher .threads) → (i ≡ id → ⊥) → Row w′ (at.threadFrom i) (threadRow (threadAt (s .dispatcher .threads) i))
+  stays-thread i h k ne = row-depends w w′ (at.threadFrom i) (threadRow (threadAt (s .dispatcher .threads) i))
       (λ j q. same j (λ o. let z : q .word < 6 = says-short (threadRow (threadAt (s .dispatcher .threads) i)) (q .word) (q .holds) (q .says) in
       omega (arith, o .here, o .has .small, q .here, ne))) (a .threads i h k)
 
@@ -74,16 +75,16 @@ module _ (w : List ℕ) (s : State) (holder : ℕ → ℕ) (active : ℕ) (a : A
 abbrev pub storedOf : Thread → stored.Thread
 storedOf t = record { priority = t .priority; state = statusNumber (t .status); result = resultNumber (t .result); status = exitStatus (t .status) }
 
-pub thread-writes : (w : List ℕ) (id : ℕ) (t : stored.Thread) → id ≤ 256 → Same (λ j. Inner (96 + 160 * id) Scalar j → ⊥) w (putThread w id t)
-thread-writes w id t h = subst (λ (v : List ℕ). Same (λ j. Inner (96 + 160 * id) Scalar j → ⊥) w v) (sym (put-thread w id t h))
-    (written-outside (λ j. Inner (96 + 160 * id) Scalar j → ⊥) Scalar w (96 + 160 * id) (threadStores t) (thread-stores t) (λ k d q. q (record { word = k; has = d; here = refl })))
+pub thread-writes : (w : List ℕ) (id : ℕ) (t : stored.Thread) → id ≤ at.mostThreads → Same (λ j. Inner (at.threadFrom id) Scalar j → ⊥) w (putThread w id t)
+thread-writes w id t h = subst (λ (v : List ℕ). Same (λ j. Inner (at.threadFrom id) Scalar j → ⊥) w v) (sym (put-thread w id t h))
+    (written-outside (λ j. Inner (at.threadFrom id) Scalar j → ⊥) Scalar w (at.threadFrom id) (threadStores t) (thread-stores t) (λ k d q. q (record { word = k; has = d; here = refl })))
 
-pub length-thread : (w : List ℕ) (id : ℕ) (t : stored.Thread) → id ≤ 256 → length (putThread w id t) ≡ length w
-length-thread w id t h = ap (λ (v : List ℕ). length v) (put-thread w id t h) ∙ length-written w (96 + 160 * id) (threadStores t)
+pub length-thread : (w : List ℕ) (id : ℕ) (t : stored.Thread) → id ≤ at.mostThreads → length (putThread w id t) ≡ length w
+length-thread w id t h = ap (λ (v : List ℕ). length v) (put-thread w id t h) ∙ length-written w (at.threadFrom id) (threadStores t)
 
-pub thread-shows : (w : List ℕ) (id : ℕ) (t : Thread) → id ≤ 256 → 256 + 160 * id ≤ length w → Row (putThread w id (storedOf t)) (96 + 160 * id) (threadRow t)
-thread-shows w id t h long = subst (λ (v : List ℕ). Row v (96 + 160 * id) (threadRow t)) (sym (put-thread w id (storedOf t) h))
-    (row-written Scalar w (96 + 160 * id) (blank 6) (threadStores (storedOf t)) (thread-stores (storedOf t)) (λ k d. omega (arith, d .small)) (row-blank w (96 + 160 * id) 6))
+pub thread-shows : (w : List ℕ) (id : ℕ) (t : Thread) → id ≤ at.mostThreads → at.headerSize + at.threadSize * id ≤ length w → Row (putThread w id (storedOf t)) (at.threadFrom id) (threadRow t)
+thread-shows w id t h long = subst (λ (v : List ℕ). Row v (at.threadFrom id) (threadRow t)) (sym (put-thread w id (storedOf t) h))
+    (row-written Scalar w (at.threadFrom id) (blank 6) (threadStores (storedOf t)) (thread-stores (storedOf t)) (λ k d. omega (arith, d .small)) (row-blank w (at.threadFrom id) 6))
 
 module _ (w : List ℕ) (s : State) (holder : ℕ → ℕ) (active : ℕ) (a : Agreeing w s holder active) where
   -- the premises: the record fits, a placed thread keeps its priority, and the words of a waiting one's wait are there already
@@ -132,7 +133,7 @@ module _ (w : List ℕ) (s : State) (holder : ℕ → ℕ) (active : ℕ) (a : A
       size : length (changeAt (s .dispatcher .threads) id t) ≡ length (s .dispatcher .threads)
       size = length-change (s .dispatcher .threads) id t
 
-      few : id ≤ 256
+      few : id ≤ at.mostThreads
       few = omega (arith, threads-few w s holder active a)
 
       w′ : List ℕ
@@ -141,22 +142,22 @@ module _ (w : List ℕ) (s : State) (holder : ℕ → ℕ) (active : ℕ) (a : A
       len : length (putThread w id (storedOf t)) ≡ length w
       len = length-thread w id (storedOf t) few
 
-      long : 256 + 160 * id ≤ length w
+      long : at.headerSize + at.threadSize * id ≤ length w
       long = omega (arith, a .enough, a .shape .sizes .threads-fit)
 
-      mine : Same (λ j. Inner (96 + 160 * id) Scalar j → ⊥) w (putThread w id (storedOf t))
+      mine : Same (λ j. Inner (at.threadFrom id) Scalar j → ⊥) w (putThread w id (storedOf t))
       mine = thread-writes w id (storedOf t) few
 
-      own : Same (λ j. Inner (96 + 160 * id) Own j → ⊥) w (putThread w id (storedOf t))
+      own : Same (λ j. Inner (at.threadFrom id) Own j → ⊥) w (putThread w id (storedOf t))
       own j q = mine j (λ o. q (record { word = o .word; has = record { small = omega (arith, o .has .small); no-next = o .has .no-next; no-waiter = o .has .no-waiter }; here = o .here }))
 
-      waits : (i : ℕ) → Same (Inner (96 + 160 * i) Waiting) w (putThread w id (storedOf t))
+      waits : (i : ℕ) → Same (Inner (at.threadFrom i) Waiting) w (putThread w id (storedOf t))
       waits i j f = mine j (λ o. omega (arith, o .here, o .has .small, f .here, f .has .from, f .has .to))
 
-      by : (i : ℕ) → 1 ≤ i → i ≤ length (s .dispatcher .threads) → Dec (i ≡ id) → Row w′ (96 + 160 * i) (threadRow (threadAt l′ i))
-      by i h k (yes e) = subst (λ (j : ℕ). Row w′ (96 + 160 * j) (threadRow (threadAt l′ j))) (sym e)
-          (subst (λ (v : Thread). Row w′ (96 + 160 * id) (threadRow v)) (sym (change-own l id t one le)) (thread-shows w id t few long))
-      by i h k (no ne) = subst (λ (v : Thread). Row w′ (96 + 160 * i) (threadRow v)) (sym (change-other l id t i ne)) (stays-thread w s holder active a id one le w′ len own i h k ne)
+      by : (i : ℕ) → 1 ≤ i → i ≤ length (s .dispatcher .threads) → Dec (i ≡ id) → Row w′ (at.threadFrom i) (threadRow (threadAt l′ i))
+      by i h k (yes e) = subst (λ (j : ℕ). Row w′ (at.threadFrom j) (threadRow (threadAt l′ j))) (sym e)
+          (subst (λ (v : Thread). Row w′ (at.threadFrom id) (threadRow v)) (sym (change-own l id t one le)) (thread-shows w id t few long))
+      by i h k (no ne) = subst (λ (v : Thread). Row w′ (at.threadFrom i) (threadRow v)) (sym (change-other l id t i ne)) (stays-thread w s holder active a id one le w′ len own i h k ne)
 
       by′ : (i : ℕ) → 1 ≤ i → i ≤ length (s .dispatcher .threads) → Dec (i ≡ id) → WaitOf w′ i (threadAt l′ i .status)
       by′ i h k (yes e) = subst (λ (j : ℕ). WaitOf w′ j (threadAt l′ j .status)) (sym e)

@@ -1,12 +1,13 @@
 -- A wait written: the words then hold it, and of a thread that does not wait nothing else is said.
 use Prim.Native.Nat.{ℕ, zero, suc, _+_, _-_, _*_, _≤_, _<_}
-use mathlib.Core.List.{List, [], _∷_}
+use mathlib.Core.List.{List, [], _∷_, _++_}
 use mathlib.Core.Bool.{false}
 use mathlib.Core.Option.{Option, none, some}
 use mathlib.Core.Path.{_≡_, refl, sym, ap, _∙_, subst}
 use native.Mathlib.Omega.{arith}
 use native.Mathlib.Decide.{ℕ-discrete}
 use lib.ListN.{getD, length}
+use Rattle.words.specs.Layout as at
 use Rattle.threads.specs.declared.Wait as stored-wait
 use Rattle.threads.specs.Thread.{putWait}
 use Rattle.model.specs.State.{State, Status, running, ready, waiting, exited, Wait}
@@ -45,8 +46,8 @@ pub record InForm (y : stored-wait.Wait) : Type 0 where
 abbrev pub rowWith : Wait → Option ℕ → List (Option ℕ)
 rowWith x d = some (flag (x .all)) ∷ some (timed (x .deadline)) ∷ d ∷ some (x .sequence) ∷ some (length (x .objects)) ∷ []
 
-pub wait-writes : (w : List ℕ) (id : ℕ) (y : stored-wait.Wait) → id ≤ 256 → y .count ≤ 64 → Same (λ j. Inner (96 + 160 * id) Waiting j → ⊥) w (putWait w id y)
-wait-writes w id y h few = wait-outside (λ j. Inner (96 + 160 * id) Waiting j → ⊥) w id y h few (λ k d q. q (record { word = k; has = d; here = refl }))
+pub wait-writes : (w : List ℕ) (id : ℕ) (y : stored-wait.Wait) → id ≤ at.mostThreads → y .count ≤ 64 → Same (λ j. Inner (at.threadFrom id) Waiting j → ⊥) w (putWait w id y)
+wait-writes w id y h few = wait-outside (λ j. Inner (at.threadFrom id) Waiting j → ⊥) w id y h few (λ k d q. q (record { word = k; has = d; here = refl }))
 
 -- ---- what the words then hold
 
@@ -69,30 +70,30 @@ places-show (suc k) w place places i (suc m) h l =
     ∙ places-show k (lib.ListN.set w (place + i) (getD places i 0)) place places (i + 1) m (omega (arith, lib.ListN.length-set w (place + i) (getD places i 0))) (omega arith)
     ∙ ap (λ (j : ℕ). getD places j 0) (let e : i + 1 + m ≡ i + suc m = omega arith in e)
 
-module _ (w : List ℕ) (id : ℕ) (y : stored-wait.Wait) (h : id ≤ 256) (long : 256 + 160 * id ≤ length w) (few : y .count ≤ 64) where
+module _ (w : List ℕ) (id : ℕ) (y : stored-wait.Wait) (h : id ≤ at.mostThreads) (long : at.headerSize + at.threadSize * id ≤ length w) (few : y .count ≤ 64) where
   abbrev terms : List ℕ
-  terms = written w (96 + 160 * id) (termStores y)
+  terms = written w (at.threadFrom id) (termStores y)
 
   abbrev row : List (Option ℕ)
   row = some (y .all) ∷ some (y .timed) ∷ some (y .deadline) ∷ some (y .sequence) ∷ some (y .count) ∷ []
 
-  -- words 6 to 10
-  pub terms-show : Row (putWait w id y) (102 + 160 * id) (some (y .all) ∷ some (y .timed) ∷ some (y .deadline) ∷ some (y .sequence) ∷ some (y .count) ∷ [])
-  terms-show = subst (λ (v : List ℕ). Row v (102 + 160 * id) row) (sym (put-wait w id y h))
-      (row-depends terms (written terms (128 + 160 * id) (placeStores (2 * y .count) (y .places) 0)) (102 + 160 * id) row
+  -- the terms
+  pub terms-show : Row (putWait w id y) (at.threadWord at.waitAll id) (some (y .all) ∷ some (y .timed) ∷ some (y .deadline) ∷ some (y .sequence) ∷ some (y .count) ∷ [])
+  terms-show = subst (λ (v : List ℕ). Row v (at.threadWord at.waitAll id) row) (sym (put-wait w id y h))
+      (row-depends terms (written terms (at.threadWord at.waitPlaces id) (placeStores (2 * y .count) (y .places) 0)) (at.threadWord at.waitAll id) row
       (λ j o. let z : o .word < 5 = says-short row (o .word) (o .holds) (o .says) in
-      written-outside (λ i. i < 128 + 160 * id) (λ k. k < 128) terms (128 + 160 * id) (placeStores (2 * y .count) (y .places) 0)
+      written-outside (λ i. i < at.threadWord at.waitPlaces id) (λ k. k < 128) terms (at.threadWord at.waitPlaces id) (placeStores (2 * y .count) (y .places) 0)
       (place-stores (2 * y .count) (y .places) 0 128 (omega arith)) (λ k l q. omega arith) j (omega (arith, o .here)))
-      (subst (λ (p : ℕ). Row terms p row) (let e : 96 + 160 * id + 6 ≡ 102 + 160 * id = omega arith in e)
-      (row-drop terms (96 + 160 * id) (none ∷ none ∷ none ∷ none ∷ none ∷ none ∷ row) 6
-      (row-written Waiting w (96 + 160 * id) (blank 11) (termStores y) (term-stores y) (λ k d. omega (arith, d .to)) (row-blank w (96 + 160 * id) 11)))))
+      (subst (λ (p : ℕ). Row terms p row) (let e : at.threadFrom id + at.waitAll ≡ at.threadWord at.waitAll id = omega arith in e)
+      (row-drop terms (at.threadFrom id) (blank at.waitAll ++ row) at.waitAll
+      (row-written Waiting w (at.threadFrom id) (blank (at.waitCount + 1)) (termStores y) (term-stores y) (λ k d. omega (arith, d .to)) (row-blank w (at.threadFrom id) (at.waitCount + 1))))))
 
   -- and the places
-  pub place-shows : (k : ℕ) → k < 2 * y .count → getD (putWait w id y) (128 + 160 * id + k) 0 ≡ getD (y .places) k 0
+  pub place-shows : (k : ℕ) → k < 2 * y .count → getD (putWait w id y) (at.threadWord at.waitPlaces id + k) 0 ≡ getD (y .places) k 0
   place-shows k l =
-      ap (λ (v : List ℕ). getD v (128 + 160 * id + k) 0) (put-wait w id y h)
-      ∙ ap (λ (j : ℕ). getD (written terms (128 + 160 * id) (placeStores (2 * y .count) (y .places) 0)) j 0) (let e : 128 + 160 * id + k ≡ 128 + 160 * id + 0 + k = omega arith in e)
-      ∙ places-show (2 * y .count) terms (128 + 160 * id) (y .places) 0 k (omega (arith, length-written w (96 + 160 * id) (termStores y))) l
+      ap (λ (v : List ℕ). getD v (at.threadWord at.waitPlaces id + k) 0) (put-wait w id y h)
+      ∙ ap (λ (j : ℕ). getD (written terms (at.threadWord at.waitPlaces id) (placeStores (2 * y .count) (y .places) 0)) j 0) (let e : at.threadWord at.waitPlaces id + k ≡ at.threadWord at.waitPlaces id + 0 + k = omega arith in e)
+      ∙ places-show (2 * y .count) terms (at.threadWord at.waitPlaces id) (y .places) 0 k (omega (arith, length-written w (at.threadFrom id) (termStores y))) l
       ∙ ap (λ (j : ℕ). getD (y .places) j 0) (let e : 0 + k ≡ k = omega arith in e)
 
   pub wait-shows : (x : Wait) → Stored y x → WaitIs (putWait w id y) id x
@@ -102,13 +103,13 @@ module _ (w : List ℕ) (id : ℕ) (y : stored-wait.Wait) (h : id ≤ 256) (long
         ∙ ap (λ (j : ℕ). getD (y .places) j 0) (let q : k ≡ 0 + k = omega arith in q) ∙ s .of-places k n e;
   }
     where
-      shown : (m : ℕ) → y .deadline ≡ m → Row (putWait w id y) (102 + 160 * id) (rowWith x (some m))
+      shown : (m : ℕ) → y .deadline ≡ m → Row (putWait w id y) (at.threadWord at.waitAll id) (rowWith x (some m))
       shown m e =
-          subst (λ (v : ℕ). Row (putWait w id y) (102 + 160 * id) (some (flag (x .all)) ∷ some (timed (x .deadline)) ∷ some m ∷ some (x .sequence) ∷ some v ∷ [])) (s .of-count)
-          (subst (λ (v : ℕ). Row (putWait w id y) (102 + 160 * id) (some (flag (x .all)) ∷ some (timed (x .deadline)) ∷ some m ∷ some v ∷ some (y .count) ∷ [])) (s .of-sequence)
-          (subst (λ (v : ℕ). Row (putWait w id y) (102 + 160 * id) (some (flag (x .all)) ∷ some (timed (x .deadline)) ∷ some v ∷ some (y .sequence) ∷ some (y .count) ∷ [])) e
-          (subst (λ (v : ℕ). Row (putWait w id y) (102 + 160 * id) (some (flag (x .all)) ∷ some v ∷ some (y .deadline) ∷ some (y .sequence) ∷ some (y .count) ∷ [])) (s .of-timed)
-          (subst (λ (v : ℕ). Row (putWait w id y) (102 + 160 * id) (some v ∷ some (y .timed) ∷ some (y .deadline) ∷ some (y .sequence) ∷ some (y .count) ∷ [])) (s .of-all) terms-show))))
+          subst (λ (v : ℕ). Row (putWait w id y) (at.threadWord at.waitAll id) (some (flag (x .all)) ∷ some (timed (x .deadline)) ∷ some m ∷ some (x .sequence) ∷ some v ∷ [])) (s .of-count)
+          (subst (λ (v : ℕ). Row (putWait w id y) (at.threadWord at.waitAll id) (some (flag (x .all)) ∷ some (timed (x .deadline)) ∷ some m ∷ some v ∷ some (y .count) ∷ [])) (s .of-sequence)
+          (subst (λ (v : ℕ). Row (putWait w id y) (at.threadWord at.waitAll id) (some (flag (x .all)) ∷ some (timed (x .deadline)) ∷ some v ∷ some (y .sequence) ∷ some (y .count) ∷ [])) e
+          (subst (λ (v : ℕ). Row (putWait w id y) (at.threadWord at.waitAll id) (some (flag (x .all)) ∷ some v ∷ some (y .deadline) ∷ some (y .sequence) ∷ some (y .count) ∷ [])) (s .of-timed)
+          (subst (λ (v : ℕ). Row (putWait w id y) (at.threadWord at.waitAll id) (some v ∷ some (y .timed) ∷ some (y .deadline) ∷ some (y .sequence) ∷ some (y .count) ∷ [])) (s .of-all) terms-show))))
 
       -- a row that leaves the deadline out
       less : (k n m : ℕ) → getD (rowWith x none) k none ≡ some n → getD (rowWith x (some m)) k none ≡ some n
@@ -117,24 +118,24 @@ module _ (w : List ℕ) (id : ℕ) (y : stored-wait.Wait) (h : id ≤ 256) (long
       less (suc (suc zero)) n m e = absurd (Rattle.model.proofs.TableLaws.none-some n e)
       less (suc (suc (suc k))) n m e = e
 
-      go : (d : Option ℕ) → x .deadline ≡ d → Row (putWait w id y) (102 + 160 * id) (termsRow x)
+      go : (d : Option ℕ) → x .deadline ≡ d → Row (putWait w id y) (at.threadWord at.waitAll id) (termsRow x)
       go none q k n e = shown (y .deadline) refl k n (less k n (y .deadline) (subst (λ (d : Option ℕ). getD (some (flag (x .all)) ∷ some (timed (x .deadline)) ∷ d ∷ some (x .sequence) ∷ some (length (x .objects)) ∷ []) k none ≡ some n) q e))
       go (some m) q k n e = shown m (s .of-deadline m q) k n (subst (λ (d : Option ℕ). getD (some (flag (x .all)) ∷ some (timed (x .deadline)) ∷ d ∷ some (x .sequence) ∷ some (length (x .objects)) ∷ []) k none ≡ some n) q e)
 
   pub kept-shows : InForm y → WaitKept (putWait w id y) id
   kept-shows f = record {
-    all = subst (λ (m : ℕ). m ≤ 1) (sym (word 0 (y .all) (102 + 160 * id) refl (omega arith))) (f .of-all);
-    timed = subst (λ (m : ℕ). m ≤ 1) (sym (word 1 (y .timed) (103 + 160 * id) refl (omega arith))) (f .of-timed);
+    all = subst (λ (m : ℕ). m ≤ 1) (sym (word 0 (y .all) (at.threadWord at.waitAll id) refl (omega arith))) (f .of-all);
+    timed = subst (λ (m : ℕ). m ≤ 1) (sym (word 1 (y .timed) (at.threadWord at.hasDeadline id) refl (omega arith))) (f .of-timed);
     count = subst (λ (m : ℕ). m ≤ 64) (sym count) (f .few);
     kinds = λ k q. let l : k < y .count = subst (λ (m : ℕ). k < m) count q in
         subst (λ (m : ℕ). m ≤ 3) (sym (place-shows (2 * k) (omega arith))) (f .kinds k l);
   }
     where
-      word : (k n j : ℕ) → getD (some (y .all) ∷ some (y .timed) ∷ some (y .deadline) ∷ some (y .sequence) ∷ some (y .count) ∷ []) k none ≡ some n → j ≡ 102 + 160 * id + k → getD (putWait w id y) j 0 ≡ n
+      word : (k n j : ℕ) → getD (some (y .all) ∷ some (y .timed) ∷ some (y .deadline) ∷ some (y .sequence) ∷ some (y .count) ∷ []) k none ≡ some n → j ≡ at.threadWord at.waitAll id + k → getD (putWait w id y) j 0 ≡ n
       word k n j e q = ap (λ (i : ℕ). getD (putWait w id y) i 0) q ∙ terms-show k n e
 
-      count : getD (putWait w id y) (106 + 160 * id) 0 ≡ y .count
-      count = word 4 (y .count) (106 + 160 * id) refl (omega arith)
+      count : getD (putWait w id y) (at.threadWord at.waitCount id) 0 ≡ y .count
+      count = word 4 (y .count) (at.threadWord at.waitCount id) refl (omega arith)
 
 -- ---- the wait of a thread that does not wait
 
@@ -143,7 +144,7 @@ module _ (w : List ℕ) (s : State) (holder : ℕ → ℕ) (active : ℕ) (a : A
   sim-wait id y one le f no-wait = record {
     enough = stays-enough w s holder active a id one le w′ len own;
     numbers = stays-numbers w s holder active a id one le w′ len own;
-    threads = λ i h k. row-depends w w′ (96 + 160 * i) (threadRow (threadAt (s .dispatcher .threads) i))
+    threads = λ i h k. row-depends w w′ (at.threadFrom i) (threadRow (threadAt (s .dispatcher .threads) i))
         (λ j q. scalars j (thread-word (length (s .dispatcher .threads)) i j (threadAt (s .dispatcher .threads) i) h k q)) (a .threads i h k);
     waits = record { kept = λ i h k. kept i h k (ℕ-discrete i id); current = λ i h k. current i h k (ℕ-discrete i id) };
     queues = stays-queues w s holder active a id one le w′ len own;
@@ -154,7 +155,7 @@ module _ (w : List ℕ) (s : State) (holder : ℕ → ℕ) (active : ℕ) (a : A
     shape = a .shape;
   }
     where
-      few : id ≤ 256
+      few : id ≤ at.mostThreads
       few = omega (arith, threads-few w s holder active a)
 
       w′ : List ℕ
@@ -163,19 +164,19 @@ module _ (w : List ℕ) (s : State) (holder : ℕ → ℕ) (active : ℕ) (a : A
       len : length (putWait w id y) ≡ length w
       len = length-wait w id y few
 
-      long : 256 + 160 * id ≤ length w
+      long : at.headerSize + at.threadSize * id ≤ length w
       long = omega (arith, a .enough, a .shape .sizes .threads-fit)
 
-      mine : Same (λ j. Inner (96 + 160 * id) Waiting j → ⊥) w (putWait w id y)
+      mine : Same (λ j. Inner (at.threadFrom id) Waiting j → ⊥) w (putWait w id y)
       mine = wait-writes w id y few (f .few)
 
-      own : Same (λ j. Inner (96 + 160 * id) Own j → ⊥) w (putWait w id y)
+      own : Same (λ j. Inner (at.threadFrom id) Own j → ⊥) w (putWait w id y)
       own j q = mine j (λ o. q (record { word = o .word; has = record { small = o .has .to; no-next = λ e. omega (arith, o .has .from); no-waiter = λ e. omega (arith, o .has .from) }; here = o .here }))
 
       scalars : Same (Field (length (s .dispatcher .threads)) Scalar) w (putWait w id y)
       scalars j f = mine j (λ o. omega (arith, o .here, o .has .from, o .has .to, f .here, f .has .small))
 
-      others : (i : ℕ) → (i ≡ id → ⊥) → Same (Inner (96 + 160 * i) Waiting) w (putWait w id y)
+      others : (i : ℕ) → (i ≡ id → ⊥) → Same (Inner (at.threadFrom i) Waiting) w (putWait w id y)
       others i ne j r = mine j (λ o. omega (arith, o .here, o .has .from, o .has .to, r .here, r .has .from, r .has .to, ne))
 
       kept : (i : ℕ) → 1 ≤ i → i ≤ length (s .dispatcher .threads) → Dec (i ≡ id) → WaitKept w′ i

@@ -4,6 +4,7 @@ use mathlib.Core.List.{List, [], _∷_}
 use mathlib.Core.Path.{_≡_, refl, ap, _∙_, subst}
 use native.Mathlib.Omega.{arith}
 use lib.ListN.{getD, set, length}
+use Rattle.words.specs.Layout as at
 use Rattle.words.specs.Layout.{threadAt}
 use Rattle.threads.specs.declared.Thread as stored
 use Rattle.threads.specs.declared.Wait as stored-wait
@@ -33,21 +34,21 @@ thread-stores t = (
     one : (k : ℕ) → k ≤ 5 → (k ≡ 2 → ⊥) → (k ≡ 3 → ⊥) → Scalar k
     one k h a b = record { small = h; no-next = a; no-waiter = b }
 
-pub put-thread : (w : List ℕ) (id : ℕ) (t : stored.Thread) → id ≤ 256 → putThread w id t ≡ written w (96 + 160 * id) (threadStores t)
+pub put-thread : (w : List ℕ) (id : ℕ) (t : stored.Thread) → id ≤ at.mostThreads → putThread w id t ≡ written w (at.threadFrom id) (threadStores t)
 unfolding putThread
 put-thread w id t h = ap (λ (at : ℕ). written w at (threadStores t)) (thread-place id h)
 
 -- ---- a wait
 
 abbrev pub termStores : stored-wait.Wait → List Store
-termStores x = store 6 (x .all) ∷ store 7 (x .timed) ∷ store 8 (x .deadline) ∷ store 9 (x .sequence) ∷ store 10 (x .count) ∷ []
+termStores x = store at.waitAll (x .all) ∷ store at.hasDeadline (x .timed) ∷ store at.deadline (x .deadline) ∷ store at.waitSequence (x .sequence) ∷ store at.waitCount (x .count) ∷ []
 
 -- the `k` words of places from `i` on
 abbrev pub placeStores : ℕ → List ℕ → ℕ → List Store
 placeStores zero places i = []
 placeStores (suc k) places i = store i (getD places i 0) ∷ placeStores k places (i + 1)
 
-pub put-terms : (w : List ℕ) (id : ℕ) (x : stored-wait.Wait) → id ≤ 256 → putTerms w id x ≡ written w (96 + 160 * id) (termStores x)
+pub put-terms : (w : List ℕ) (id : ℕ) (x : stored-wait.Wait) → id ≤ at.mostThreads → putTerms w id x ≡ written w (at.threadFrom id) (termStores x)
 unfolding putTerms
 put-terms w id x h = ap (λ (at : ℕ). written w at (termStores x)) (thread-place id h)
 
@@ -56,14 +57,14 @@ unfolding putPlaces
 put-places zero w place places i = refl
 put-places (suc k) w place places i = put-places k (set w (place + i) (getD places i 0)) place places (i + 1)
 
-pub put-wait : (w : List ℕ) (id : ℕ) (x : stored-wait.Wait) → id ≤ 256
-    → putWait w id x ≡ written (written w (96 + 160 * id) (termStores x)) (128 + 160 * id) (placeStores (2 * x .count) (x .places) 0)
+pub put-wait : (w : List ℕ) (id : ℕ) (x : stored-wait.Wait) → id ≤ at.mostThreads
+    → putWait w id x ≡ written (written w (at.threadFrom id) (termStores x)) (at.threadWord at.waitPlaces id) (placeStores (2 * x .count) (x .places) 0)
 unfolding putWait placesAt
 put-wait w id x h =
-    put-places (2 * x .count) (putTerms w id x) (threadAt id + 32) (x .places) 0
-    ∙ ap (λ (v : List ℕ). written v (threadAt id + 32) (placeStores (2 * x .count) (x .places) 0)) (put-terms w id x h)
-    ∙ ap (λ (at : ℕ). written (written w (96 + 160 * id) (termStores x)) at (placeStores (2 * x .count) (x .places) 0))
-    (let e : threadAt id + 32 ≡ 128 + 160 * id = omega (arith, thread-place id h) in e)
+    put-places (2 * x .count) (putTerms w id x) (threadAt id + at.waitPlaces) (x .places) 0
+    ∙ ap (λ (v : List ℕ). written v (threadAt id + at.waitPlaces) (placeStores (2 * x .count) (x .places) 0)) (put-terms w id x h)
+    ∙ ap (λ (at : ℕ). written (written w (at.threadFrom id) (termStores x)) at (placeStores (2 * x .count) (x .places) 0))
+    (let e : threadAt id + at.waitPlaces ≡ at.threadWord at.waitPlaces id = omega (arith, thread-place id h) in e)
 
 pub place-stores : (k : ℕ) (places : List ℕ) (i n : ℕ) → i + k ≤ n → In (λ j. j < n) (placeStores k places i)
 place-stores zero places i n h = tt
@@ -71,34 +72,34 @@ place-stores (suc k) places i n h = (omega arith, place-stores k places (i + 1) 
 
 pub term-stores : (x : stored-wait.Wait) → In Waiting (termStores x)
 term-stores x = (
-  one 6 (omega arith) (omega arith),
+  one at.waitAll (omega arith) (omega arith),
   (
-    one 7 (omega arith) (omega arith),
+    one at.hasDeadline (omega arith) (omega arith),
     (
-      one 8 (omega arith) (omega arith),
+      one at.deadline (omega arith) (omega arith),
       (
-        one 9 (omega arith) (omega arith),
-        (one 10 (omega arith) (omega arith), tt),
+        one at.waitSequence (omega arith) (omega arith),
+        (one at.waitCount (omega arith) (omega arith), tt),
       ),
     ),
   ),
 )
   where
-    one : (k : ℕ) → 6 ≤ k → k < 160 → Waiting k
+    one : (k : ℕ) → at.waitAll ≤ k → k < at.threadSize → Waiting k
     one k a b = record { from = a; to = b }
 
 -- a wait of at most 64 places is written in words 6 to 159 of its thread's record
-pub wait-outside : (R : ℕ → Type 0) (w : List ℕ) (id : ℕ) (x : stored-wait.Wait) → id ≤ 256 → x .count ≤ 64 → ((d : ℕ) → Waiting d → R (96 + 160 * id + d) → ⊥) → Same R w (putWait w id x)
+pub wait-outside : (R : ℕ → Type 0) (w : List ℕ) (id : ℕ) (x : stored-wait.Wait) → id ≤ at.mostThreads → x .count ≤ 64 → ((d : ℕ) → Waiting d → R (at.threadFrom id + d) → ⊥) → Same R w (putWait w id x)
 wait-outside R w id x h few n j r = ap (λ (v : List ℕ). getD v j 0) (put-wait w id x h)
-    ∙ written-outside R (λ k. k < 128) (written w (96 + 160 * id) (termStores x)) (128 + 160 * id) (placeStores (2 * x .count) (x .places) 0)
+    ∙ written-outside R (λ k. k < 128) (written w (at.threadFrom id) (termStores x)) (at.threadWord at.waitPlaces id) (placeStores (2 * x .count) (x .places) 0)
     (place-stores (2 * x .count) (x .places) 0 128 (omega arith))
     (λ k l q. n (32 + k) (record { from = omega arith; to = omega arith }) (subst R (omega arith) q)) j r
-    ∙ written-outside R Waiting w (96 + 160 * id) (termStores x) (term-stores x) n j r
+    ∙ written-outside R Waiting w (at.threadFrom id) (termStores x) (term-stores x) n j r
 
-pub length-wait : (w : List ℕ) (id : ℕ) (x : stored-wait.Wait) → id ≤ 256 → length (putWait w id x) ≡ length w
+pub length-wait : (w : List ℕ) (id : ℕ) (x : stored-wait.Wait) → id ≤ at.mostThreads → length (putWait w id x) ≡ length w
 length-wait w id x h = ap (λ (v : List ℕ). length v) (put-wait w id x h)
-    ∙ length-written (written w (96 + 160 * id) (termStores x)) (128 + 160 * id) (placeStores (2 * x .count) (x .places) 0)
-    ∙ length-written w (96 + 160 * id) (termStores x)
+    ∙ length-written (written w (at.threadFrom id) (termStores x)) (at.threadWord at.waitPlaces id) (placeStores (2 * x .count) (x .places) 0)
+    ∙ length-written w (at.threadFrom id) (termStores x)
 
 -- ---- an object, a DPC: place + 0 is the place
 
@@ -108,7 +109,7 @@ objectStores key o = store 0 key ∷ store 1 (o .kind) ∷ store 2 (o .manual) �
 pub put-object : (w : List ℕ) (place key : ℕ) (o : stored-object.Object) → putObject w place key o ≡ written w place (objectStores key o)
 unfolding putObject
 put-object w place key o =
-    ap (λ (p : ℕ). set (set (set (set (set w p key) (place + 1) (o .kind)) (place + 2) (o .manual)) (place + 3) (o .signaled)) (place + 4) (o .owner))
+    ap (λ (p : ℕ). set (set (set (set (set w p key) (place + at.kind) (o .kind)) (place + at.manual) (o .manual)) (place + at.signaled) (o .signaled)) (place + at.owner) (o .owner))
     (let e : place ≡ place + 0 = omega arith in e)
 
 abbrev pub dpcStores : ℕ → NewDpc → List Store
@@ -119,5 +120,5 @@ dpcStores address d =
 pub put-dpc : (w : List ℕ) (place address : ℕ) (d : NewDpc) → putDpc w place address d ≡ written w place (dpcStores address d)
 unfolding putDpc putImage putIdle
 put-dpc w place address d =
-    ap (λ (p : ℕ). putImage (set (set (set (set w p address) (place + 1) 0) (place + 2) 0) (place + 3) 0) place d)
+    ap (λ (p : ℕ). putImage (set (set (set (set w p address) (place + at.phase) 0) (place + at.nextQueued) 0) (place + at.namedBy) 0) place d)
     (let e : place ≡ place + 0 = omega arith in e)

@@ -7,6 +7,7 @@ use native.Mathlib.Omega.{arith}
 use native.Mathlib.Decide.{ℕ-discrete}
 use lib.ListN.{getD, set, length}
 use lib.Seq.{getD-set-other}
+use Rattle.words.specs.Layout as at
 use Rattle.model.specs.Table.{Rising}
 use Rattle.model.specs.State.{State, Object}
 use Rattle.model.specs.Waits.{keyOf}
@@ -44,10 +45,10 @@ module _ (w : List ℕ) (s : State) (holder : ℕ → ℕ) (active : ℕ) (a : A
     pub no-count : j ≡ 4 → ⊥
     pub no-object : objectsFrom (s .limits) ≤ j → j < dpcsFrom (s .limits) → ⊥
 
-  pub sim-objects : (w′ : List ℕ) (l : List Object) → length w′ ≡ length w → Same Elsewhere w w′ → getD w′ 4 0 ≡ length l → Objects w′ (objectsFrom (s .limits)) l
+  pub sim-objects : (w′ : List ℕ) (l : List Object) → length w′ ≡ length w → Same Elsewhere w w′ → getD w′ at.objects 0 ≡ length l → Objects w′ (objectsFrom (s .limits)) l
       → length l ≤ s .limits .objects → Rising keyOf l → Each keyOf l ObjectFits → Agreeing w′ (withTable s l) holder active
   sim-objects w′ l len same count rows room rising bounded = record {
-    enough = subst (λ (m : ℕ). 256 + 160 * s .limits .threads + 32 * (s .limits .objects + s .limits .dpcs) ≤ m) (sym len) (a .enough);
+    enough = subst (λ (m : ℕ). at.headerSize + at.threadSize * s .limits .threads + 32 * (s .limits .objects + s .limits .dpcs) ≤ m) (sym len) (a .enough);
     numbers = row-one w w′ 0 (headerOf s active) 4 (length l) (a .numbers)
         (λ j o n. let h = header-word s active j o in same j (record { no-count = λ e. n (omega arith); no-object = λ x y. omega (arith, h .small) })) count;
     threads = threads-depend w w′ (s .dispatcher .threads) (λ j f. front j (omega (arith, f .here, f .one)) (omega (arith, f .here, f .has .small, f .le, fit))) (a .threads);
@@ -82,8 +83,8 @@ module _ (w : List ℕ) (s : State) (holder : ℕ → ℕ) (active : ℕ) (a : A
       fit = a .shape .sizes .threads-fit
 
       -- before the table of objects, and behind it
-      front : (j : ℕ) → 5 ≤ j → j < 256 + 160 * s .limits .threads → getD w′ j 0 ≡ getD w j 0
+      front : (j : ℕ) → 5 ≤ j → j < at.headerSize + at.threadSize * s .limits .threads → getD w′ j 0 ≡ getD w j 0
       front j h k = same j (record { no-count = λ e. omega arith; no-object = λ x y. omega arith })
 
-      behind : (j : ℕ) → 256 + 160 * s .limits .threads + 32 * s .limits .objects ≤ j → getD w′ j 0 ≡ getD w j 0
+      behind : (j : ℕ) → at.headerSize + at.threadSize * s .limits .threads + 32 * s .limits .objects ≤ j → getD w′ j 0 ≡ getD w j 0
       behind j h = same j (record { no-count = λ e. omega arith; no-object = λ x y. omega arith })

@@ -5,6 +5,7 @@ use mathlib.Core.List.{List}
 use mathlib.Core.Option.{Option, some}
 use mathlib.Core.Path.{_≡_}
 use lib.ListN.{getD, length}
+use Rattle.words.specs.Layout as at
 use Rattle.images.specs.declared.Dpc.{Dpc}
 use Rattle.chains.specs.Ready.{waitersChain}
 use Rattle.model.specs.Lists.{nth}
@@ -20,14 +21,14 @@ use Rattle.agreement.specs.Shape.{Shape}
 -- ---- where tables begin
 
 abbrev pub objectsFrom : Limits → ℕ
-objectsFrom l = 256 + 160 * l .threads
+objectsFrom l = at.headerSize + at.threadSize * l .threads
 
 abbrev pub dpcsFrom : Limits → ℕ
-dpcsFrom l = 256 + 160 * l .threads + 32 * l .objects
+dpcsFrom l = at.headerSize + at.threadSize * l .threads + at.recordSize * l .objects
 
 -- the words are enough for the limits
 abbrev pub Enough : List ℕ → Limits → Type 0
-Enough w l = 256 + 160 * l .threads + 32 * (l .objects + l .dpcs) ≤ length w
+Enough w l = at.headerSize + at.threadSize * l .threads + at.recordSize * (l .objects + l .dpcs) ≤ length w
 
 -- ---- the header's numbers
 
@@ -40,14 +41,14 @@ headerOf s active =
 -- ---- threads: record i is thread i
 
 abbrev pub Threads : List ℕ → List Thread → Type 0
-Threads w l = (i : ℕ) → 1 ≤ i → i ≤ length l → Row w (96 + 160 * i) (threadRow (threadAt l i))
+Threads w l = (i : ℕ) → 1 ≤ i → i ≤ length l → Row w (at.threadFrom i) (threadRow (threadAt l i))
 
 -- ---- waits
 
 -- what a waiting thread waits for
 pub record WaitIs (w : List ℕ) (i : ℕ) (x : Wait) : Type 0 where
-  pub terms : Row w (102 + 160 * i) (termsRow x)
-  pub places : Row w (128 + 160 * i) (placesRow (x .objects))
+  pub terms : Row w (at.threadWord at.waitAll i) (termsRow x)
+  pub places : Row w (at.threadWord at.waitPlaces i) (placesRow (x .objects))
 
 -- The log keeps a wait only while the thread waits; the words keep the last one after it has ended. So a wait is said of waiting
 -- threads alone.
@@ -59,10 +60,10 @@ WaitOf w i (exited n) = Unit
 
 -- Of the words of every thread, the wait that it has or had last: it has the form of one, for the form check looks at it.
 pub record WaitKept (w : List ℕ) (i : ℕ) : Type 0 where
-  pub all : getD w (102 + 160 * i) 0 ≤ 1
-  pub timed : getD w (103 + 160 * i) 0 ≤ 1
-  pub count : getD w (106 + 160 * i) 0 ≤ 64
-  pub kinds : (k : ℕ) → k < getD w (106 + 160 * i) 0 → getD w (128 + 160 * i + 2 * k) 0 ≤ 3
+  pub all : getD w (at.threadWord at.waitAll i) 0 ≤ 1
+  pub timed : getD w (at.threadWord at.hasDeadline i) 0 ≤ 1
+  pub count : getD w (at.threadWord at.waitCount i) 0 ≤ 64
+  pub kinds : (k : ℕ) → k < getD w (at.threadWord at.waitCount i) 0 → getD w (at.threadWord at.waitPlaces i + 2 * k) 0 ≤ 3
 
 pub record Waits (w : List ℕ) (l : List Thread) : Type 0 where
   pub kept : (i : ℕ) → 1 ≤ i → i ≤ length l → WaitKept w i
@@ -71,11 +72,11 @@ pub record Waits (w : List ℕ) (l : List Thread) : Type 0 where
 -- ---- tables: record i is the i-th of the list
 
 abbrev pub Objects : List ℕ → ℕ → List Object → Type 0
-Objects w base l = (i : ℕ) (x : Object) → nth l i ≡ some x → Row w (base + 32 * i) (objectRow x)
+Objects w base l = (i : ℕ) (x : Object) → nth l i ≡ some x → Row w (base + at.recordSize * i) (objectRow x)
 
 -- a DPC's record names the inserted timer that has it
 abbrev pub DpcTable : List ℕ → ℕ → (ℕ → ℕ) → List Dpc → Type 0
-DpcTable w base holder table = (i : ℕ) (d : Dpc) → nth table i ≡ some d → Row w (base + 32 * i) (dpcRow (holder (d .address)) d)
+DpcTable w base holder table = (i : ℕ) (d : Dpc) → nth table i ≡ some d → Row w (base + at.recordSize * i) (dpcRow (holder (d .address)) d)
 
 -- ---- all of it
 

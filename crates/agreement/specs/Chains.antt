@@ -1,6 +1,7 @@
 -- The lists that the chains of the words hold.
 use Prim.Native.Nat.{ℕ, _-_}
 use mathlib.Core.List.{List}
+use Rattle.words.specs.Layout as at
 use Rattle.chains.specs.declared.Chain.{Chain}
 use Rattle.model.specs.State.{Thread}
 use Rattle.model.specs.Threads.{threadAt}
@@ -10,6 +11,6 @@ use Rattle.agreement_chains.specs.Ready.{byPriority}
 abbrev pub queuesOf : List Thread → List ℕ → ℕ → List ℕ
 queuesOf threads placed = byPriority (λ x. threadAt threads x .priority) placed
 
--- the DPC queue, whose links are word 2 of the records from `base` on, by the numbers of DPCs
+-- the DPC queue, whose links stand in the records from `base` on, by the numbers of DPCs
 abbrev pub queueFrom : ℕ → Chain
-queueFrom base = record { first = 23; last = 24; link = base - 30; stride = 32 }
+queueFrom base = record { first = at.queueFirst; last = at.queueLast; link = base - at.queueLinkBefore; stride = at.recordSize }

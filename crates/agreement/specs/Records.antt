@@ -40,8 +40,8 @@ secondArgument (cpu0Dispatch first second) = second
 abbrev pub activeAddress : List Dpc → ℕ
 activeAddress table = given (activeDpc table) 0 (λ (d : Dpc). d .address)
 
--- words 0 to 25: the limits; how many threads, objects and DPCs; the current thread, the wait sequence, the time; 9 is the ready
--- word; the policy and its arguments; the six counts; the two of initializations; 21 to 24 are ends of chains; the active DPC
+-- to `active`: the limits; how many threads, objects and DPCs; the current thread, the wait sequence, the time; the policy and its
+-- arguments; the six counts; the two of initializations; the active DPC. The ready word and the ends of chains are said elsewhere.
 abbrev pub header : Limits → ℕ → ℕ → ℕ → ℕ → ℕ → ℕ → Policy → Counters → ℕ → ℕ → ℕ → List (Option ℕ)
 header l threads objects dpcs current sequence now policy c timersMade dpcsMade active =
     some (l .threads) ∷ some (l .objects) ∷ some (l .dpcs)
@@ -74,7 +74,7 @@ resultNumber none = 0
 resultNumber (some timeout) = 1
 resultNumber (some (satisfied i)) = i + 2
 
--- words 0 to 5 of its record: 2 and 3 are links
+-- its record up to `status`; its two links are said elsewhere
 abbrev pub threadRow : Thread → List (Option ℕ)
 threadRow t = some (t .priority) ∷ some (statusNumber (t .status)) ∷ none ∷ none ∷ some (resultNumber (t .result)) ∷ some (exitStatus (t .status)) ∷ []
 
@@ -85,11 +85,11 @@ abbrev pub timed : Option ℕ → ℕ
 timed none = 0
 timed (some t) = 1
 
--- words 6 to 10 of a thread's record; the word of a deadline that there is not may hold anything
+-- its record from `waitAll` to `waitCount`; the word of a deadline that there is not may hold anything
 abbrev pub termsRow : Wait → List (Option ℕ)
 termsRow x = some (flag (x .all)) ∷ some (timed (x .deadline)) ∷ x .deadline ∷ some (x .sequence) ∷ some (length (x .objects)) ∷ []
 
--- from word 32 on: a kind and a key for each
+-- from `waitPlaces` on: a kind and a key for each
 abbrev pub placesRow : List Named → List (Option ℕ)
 placesRow [] = []
 placesRow (n ∷ ns) = some (n .kind) ∷ some (n .key) ∷ placesRow ns
@@ -123,12 +123,12 @@ originRow origin.Caller = some 0 ∷ some 0 ∷ some 0 ∷ some 0 ∷ some 0 ∷
 originRow (origin.Timer address arm initialization deadline observed periodic) =
     some 1 ∷ some address ∷ some arm ∷ some initialization ∷ some deadline ∷ some observed ∷ some (flag periodic) ∷ []
 
--- words 11 to 20; those of an idle DPC may hold anything
+-- from `workSequence` to `originPeriodic`; those of an idle DPC may hold anything
 abbrev pub workRow : Option DpcWork → List (Option ℕ)
 workRow none = []
 workRow (some w) = some (w .sequence) ∷ some (w .first) ∷ some (w .second) ∷ originRow (w .origin)
 
--- word 2 is a link, word 3 the inserted timer that has the DPC
+-- `nextQueued` is a link; `namedBy` is the inserted timer that has the DPC
 abbrev pub dpcRow : ℕ → Dpc → List (Option ℕ)
 dpcRow holder d =
     some (d .address) ∷ some (phaseNumber (d .phase)) ∷ none ∷ some holder

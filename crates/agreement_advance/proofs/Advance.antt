@@ -6,6 +6,7 @@ use mathlib.Core.Path.{_≡_, refl, sym, ap, _∙_, subst}
 use native.Mathlib.Omega.{arith}
 use lib.ListN.{set}
 use lib.Dec.{ltb}
+use Rattle.words.specs.Layout as at
 use Rattle.answers.specs.Outcome as code
 use Rattle.answers.specs.Outcome.{unless}
 use Rattle.answers.specs.declared.Answer.the-variants as answer
@@ -81,7 +82,7 @@ module _ (w : List ℕ) (s : State) (a : Agree w s) (v : Valid s) (time : ℕ) w
 
   pub agree-advance : Plainly (words.advanced w time) (step (call.AdvanceTo time) s)
   unfolding words.advanced refusal effect
-  agree-advance = subst (λ (n : ℕ). Plainly (cond (ltb time n) (code.outcome (answer.Refused 12) w) rest) (step (call.AdvanceTo time) s)) (sym (a .numbers 8 (s .now) refl)) (go (ltb time (s .now)) refl)
+  agree-advance = subst (λ (n : ℕ). Plainly (cond (ltb time n) (code.outcome (answer.Refused 12) w) rest) (step (call.AdvanceTo time) s)) (sym (a .numbers at.now (s .now) refl)) (go (ltb time (s .now)) refl)
     where
       rest : code.Outcome
       rest = unless (expiryRefusal w time) w (code.outcome answer.Done (words.expiredAll (awake (set (expiryWords w time) 8 time)) time))

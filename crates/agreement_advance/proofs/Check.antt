@@ -8,6 +8,7 @@ use native.Mathlib.Omega.{arith}
 use borrow.Author.Tests.{eqb-true, eqb-false, ltb-true, ltb-false, lt-ltb, le-ltb, ne-eqb}
 use lib.ListN.{getD}
 use lib.Dec.{eqb, leb, ltb}
+use Rattle.words.specs.Layout as at
 use Rattle.dpcs.specs.Record.{numberOf, placeAt}
 use Rattle.expiry.specs.Next as next
 use Rattle.expiry.specs.Check.{isOwn, idleRefusal, queuedRefusal, workRefusal, timerPasses, plainRefusal, queuingRefusal, oneRefusal, counts}
@@ -90,13 +91,13 @@ module _ (w : List ℕ) (s : State) (holder : ℕ → ℕ) (active : ℕ) (a : A
 
     own-is : (p h : ℕ) (d : Dpc) (x : DpcWork) (o : DpcOrigin) → x .origin ≡ o → Row w p (rowIn h d (Queued x)) → isOwn w p place ≡ isFrom t o
     unfolding isOwn
-    own-is p h d x origin.Caller e r = let z : getD w (p + 14) 0 ≡ 0 = r 14 0 (ap (λ (o : DpcOrigin). getD (originRow o) 0 none) e) in simp (z)
+    own-is p h d x origin.Caller e r = let z : getD w (p + at.origin) 0 ≡ 0 = r 14 0 (ap (λ (o : DpcOrigin). getD (originRow o) 0 none) e) in simp (z)
     own-is p h d x (origin.Timer address arm initialization deadline observed periodic) e r =
         simp (
-          let z : getD w (p + 14) 0 ≡ 1 = r 14 1 (ap (λ (o : DpcOrigin). getD (originRow o) 0 none) e) in z,
-          let z : getD w (p + 15) 0 ≡ address = r 15 address (ap (λ (o : DpcOrigin). getD (originRow o) 1 none) e) in z,
-          let z : getD w (p + 16) 0 ≡ arm = r 16 arm (ap (λ (o : DpcOrigin). getD (originRow o) 2 none) e) in z,
-          let z : getD w (p + 17) 0 ≡ initialization = r 17 initialization (ap (λ (o : DpcOrigin). getD (originRow o) 3 none) e) in z,
+          let z : getD w (p + at.origin) 0 ≡ 1 = r 14 1 (ap (λ (o : DpcOrigin). getD (originRow o) 0 none) e) in z,
+          let z : getD w (p + at.originTimer) 0 ≡ address = r 15 address (ap (λ (o : DpcOrigin). getD (originRow o) 1 none) e) in z,
+          let z : getD w (p + at.originArm) 0 ≡ arm = r 16 arm (ap (λ (o : DpcOrigin). getD (originRow o) 2 none) e) in z,
+          let z : getD w (p + at.originInitialization) 0 ≡ initialization = r 17 initialization (ap (λ (o : DpcOrigin). getD (originRow o) 3 none) e) in z,
           row 0 (t .address) refl,
           row 10 (t .«arm_generation») refl,
           row 11 (t .initialization) refl,
@@ -127,7 +128,7 @@ module _ (w : List ℕ) (s : State) (holder : ℕ → ℕ) (active : ℕ) (a : A
       timer-passes : timerPasses w place time ≡ late time t
       unfolding timerPasses
       timer-passes =
-          ap (λ (n : ℕ). next.passes n time (getD w (place + 7) 0)) (row 6 (t .due) refl) ∙ ap (next.passes (t .due) time) (row 7 (t .«period_ms») refl) ∙ passes-is time t h
+          ap (λ (n : ℕ). next.passes n time (getD w (place + at.period) 0)) (row 6 (t .due) refl) ∙ ap (next.passes (t .due) time) (row 7 (t .«period_ms») refl) ∙ passes-is time t h
 
       plain-is : plainRefusal w place time ≡ cond (eqb (t .dpc) 0) (horizonRefusal time t) 20
       unfolding plainRefusal

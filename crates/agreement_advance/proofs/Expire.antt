@@ -7,6 +7,7 @@ use mathlib.Core.Logic.{inl, inr}
 use mathlib.Core.Path.{_≡_, refl, sym, ap, _∙_, subst}
 use lib.ListN.{set}
 use lib.Dec.{eqb}
+use Rattle.words.specs.Layout as at
 use Rattle.words.specs.Layout.{entryAt}
 use Rattle.objects.specs.Objects.{objectsBase}
 use Rattle.expiry.specs.Expire.{workQueued, settled, expiredOne, expiredList}
@@ -99,7 +100,7 @@ module _ (s : State) (time : ℕ) where
     pub sim-expired-one : Agree (expiredOne w (entryAt (objectsFrom (s .limits)) i) time) (inMidst s (expireOne (s .policy) time e t))
     unfolding expiredOne expireOne
     sim-expired-one =
-        subst (λ (p : ℕ). Agree (settled (set (workQueued w (entryAt (objectsFrom (s .limits)) i) time) (p + 3) 1) p time) (inMidst s (expireOne (s .policy) time e t))) (sym place-is)
+        subst (λ (p : ℕ). Agree (settled (set (workQueued w (entryAt (objectsFrom (s .limits)) i) time) (p + at.signaled) 1) p time) (inMidst s (expireOne (s .policy) time e t))) (sym place-is)
         (sim-settled (workQueued w (entryAt (objectsFrom (s .limits)) i) time) m₁ (activeAddress (dpcsAfter (s .policy) time (e .dpcs) t .table)) worked t at ins
         (λ has. after-present (s .policy) time (e .dpcs) t (v .queueing .rising) known (t .dpc) ∙ known has) (v .linked .alone) time (horizon-passed time (e .dpcs) t (s .policy) r))
 

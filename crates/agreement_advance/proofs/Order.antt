@@ -7,6 +7,7 @@ use mathlib.Core.Path.{_≡_, refl, sym, ap, _∙_, subst}
 use native.Mathlib.Omega.{arith}
 use lib.ListN.{getD, length}
 use lib.Dec.{eqb, leb}
+use Rattle.words.specs.Layout as at
 use Rattle.words.specs.Layout.{entryAt}
 use Rattle.objects.specs.Objects.{objectCount}
 use Rattle.expiry.specs.Due as words
@@ -127,8 +128,8 @@ module _ (w : List ℕ) (s : State) (holder : ℕ → ℕ) (active : ℕ) (a : A
   sorted-names (i ∷ is) [] n = absurd n
   sorted-names (i ∷ is) (t ∷ ts) n = put-names i t (n .0) (sorted w base is) (byDue ts) (sorted-names is ts (n .1))
 
-  pub policy-is : eqb (getD w 10 0) 0 ≡ eqb (policyNumber (s .policy)) 0
-  policy-is = ap (λ (n : ℕ). eqb n 0) (a .numbers 10 (policyNumber (s .policy)) refl)
+  pub policy-is : eqb (getD w at.policy 0) 0 ≡ eqb (policyNumber (s .policy)) 0
+  policy-is = ap (λ (n : ℕ). eqb n 0) (a .numbers at.policy (policyNumber (s .policy)) refl)
 
   arranged-names : (is : List ℕ) (ts : List Timer) → Names objects is ts → Names objects (arranged w base is) (inOrder (s .policy) ts)
   unfolding arranged

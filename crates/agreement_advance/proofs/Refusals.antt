@@ -10,6 +10,7 @@ use native.Mathlib.Omega.{arith}
 use borrow.Author.Tests.{eq-eqb, eqb-true, eqb-false, ne-eqb}
 use lib.ListN.{getD}
 use lib.Dec.{eqb}
+use Rattle.words.specs.Layout as at
 use Rattle.words.specs.Layout.{entryAt}
 use Rattle.dpcs.specs.Record.{numberOf, placeAt}
 use Rattle.expiry.specs.Check.{oneRefusal, counts, countedAfter, countsAt, refusalIn, listRefusal}
@@ -62,7 +63,7 @@ module _ (w : List ℕ) (s : State) (holder : ℕ → ℕ) (active : ℕ) (a : A
 
         start : countedAfter w place (countsOf q) ≡ branches (phaseNumber p)
         start =
-            ap (λ (n : ℕ). cond (eqb n 0) (countsOf q) (branches (getD w (placeAt w (numberOf w n) + 1) 0))) (row 8 (t .dpc) refl)
+            ap (λ (n : ℕ). cond (eqb n 0) (countsOf q) (branches (getD w (placeAt w (numberOf w n) + at.phase) 0))) (row 8 (t .dpc) refl)
             ∙ ap (λ (b : Bool). cond b (countsOf q) (branches (getD w (at + 1) 0))) (ne-eqb (t .dpc) 0 has)
             ∙ ap branches (dpc-row-at w s holder active a (t .dpc) d e 1 (phaseNumber (d .phase)) refl ∙ ap phaseNumber f)
 
@@ -138,9 +139,9 @@ pub expiry-refusal-is : (w : List ℕ) (s : State) → Agree w s → Valid s →
     → words.expiryRefusal w time ≡ refusalOfEach (s .policy) time (unexpired s) (dueTimers (s .policy) time (s .dispatcher .objects))
 unfolding words.expiryRefusal listRefusal countsAt
 expiry-refusal-is w s a v time =
-    ap (λ (b : ℕ). refusalIn w b (words.order w time) time (counts (getD w 13 0) (getD w 14 0))) (base-is w s holder active a)
-    ∙ ap (λ (n : ℕ). refusalIn w (objectsFrom (s .limits)) (words.order w time) time (counts n (getD w 14 0))) (a .numbers 13 (s .dpcs .counters .accepted) refl)
-    ∙ ap (λ (n : ℕ). refusalIn w (objectsFrom (s .limits)) (words.order w time) time (counts (s .dpcs .counters .accepted) n)) (a .numbers 14 (s .dpcs .counters .duplicates) refl)
+    ap (λ (b : ℕ). refusalIn w b (words.order w time) time (counts (getD w at.accepted 0) (getD w at.duplicates 0))) (base-is w s holder active a)
+    ∙ ap (λ (n : ℕ). refusalIn w (objectsFrom (s .limits)) (words.order w time) time (counts n (getD w at.duplicates 0))) (a .numbers at.accepted (s .dpcs .counters .accepted) refl)
+    ∙ ap (λ (n : ℕ). refusalIn w (objectsFrom (s .limits)) (words.order w time) time (counts (s .dpcs .counters .accepted) n)) (a .numbers at.duplicates (s .dpcs .counters .duplicates) refl)
     ∙ along w s holder active a time (words.order w time) (dueTimers (s .policy) time (s .dispatcher .objects)) (unexpired s) (order-names w s holder active a time) (begun s v)
     (due-pending (s .policy) time (s .dispatcher .objects) (v .sound .rising)) (λ u m has. refl)
   where

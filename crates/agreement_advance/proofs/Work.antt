@@ -8,6 +8,7 @@ use native.Mathlib.Omega.{arith}
 use borrow.Author.Tests.{eq-eqb, ne-eqb, eqb-true, eqb-false}
 use lib.ListN.{getD}
 use lib.Dec.{eqb}
+use Rattle.words.specs.Layout as at
 use Rattle.dpcs.specs.Record.{numberOf}
 use Rattle.dpc_queue.specs.Queue as queue
 use Rattle.dpc_queue.specs.declared.Origin.{Origin}
@@ -76,14 +77,14 @@ module _ (w : List ℕ) (s : State) (holder : ℕ → ℕ) (active : ℕ) (a : A
         (sym (dpc-row-at w s holder active a (t .dpc) d e 1 (phaseNumber (d .phase)) refl ∙ ap phaseNumber f)) (go p f r)
       where
         branches : ℕ → List ℕ
-        branches n = cond (eqb n 0) (queue.accepted w (numberOf w (t .dpc)) (getD w 11 0) (getD w 12 0) (words.originOf w place time)) (queue.raised w 14)
+        branches n = cond (eqb n 0) (queue.accepted w (numberOf w (t .dpc)) (getD w at.timerArgument 0) (getD w at.timerArgument2 0) (words.originOf w place time)) (queue.raised w 14)
 
         go : (p : DpcPhase) → d .phase ≡ p → queueRefusal (s .dpcs) t p ≡ 0 → Agreeing (branches (phaseNumber p)) (withDpcs s (workQueued (s .dpcs) first second time t p)) holder active
         go Idle f r =
-            let x = a .numbers 11 (firstArgument (s .policy)) refl ∙ ap firstArgument policy in
-            let y = a .numbers 12 (secondArgument (s .policy)) refl ∙ ap secondArgument policy in
-            subst (λ (o : Origin). Agreeing (queue.accepted w (numberOf w (t .dpc)) (getD w 11 0) (getD w 12 0) o) (withDpcs s (accepted (s .dpcs) (t .dpc) first second (originOf time t))) holder active) (sym origin-is)
-            (subst (λ (n : ℕ). Agreeing (queue.accepted w (numberOf w (t .dpc)) n (getD w 12 0) (storedOrigin (originOf time t))) (withDpcs s (accepted (s .dpcs) (t .dpc) first second (originOf time t))) holder active) (sym x)
+            let x = a .numbers at.timerArgument (firstArgument (s .policy)) refl ∙ ap firstArgument policy in
+            let y = a .numbers at.timerArgument2 (secondArgument (s .policy)) refl ∙ ap secondArgument policy in
+            subst (λ (o : Origin). Agreeing (queue.accepted w (numberOf w (t .dpc)) (getD w at.timerArgument 0) (getD w at.timerArgument2 0) o) (withDpcs s (accepted (s .dpcs) (t .dpc) first second (originOf time t))) holder active) (sym origin-is)
+            (subst (λ (n : ℕ). Agreeing (queue.accepted w (numberOf w (t .dpc)) n (getD w at.timerArgument2 0) (storedOrigin (originOf time t))) (withDpcs s (accepted (s .dpcs) (t .dpc) first second (originOf time t))) holder active) (sym x)
             (subst (λ (n : ℕ). Agreeing (queue.accepted w (numberOf w (t .dpc)) first n (storedOrigin (originOf time t))) (withDpcs s (accepted (s .dpcs) (t .dpc) first second (originOf time t))) holder active) (sym y)
             (sim-accepted-work w s holder active a (t .dpc) d e (numberOf w (t .dpc)) first second (originOf time t) refl
             (not-queued limit (s .dpcs) v (t .dpc) (ap isQueued (phase-found (s .dpcs .table) (t .dpc) d e ∙ f))) (omega (arith, idle-passed time (s .dpcs) t r)))))

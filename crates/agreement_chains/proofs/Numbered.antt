@@ -10,6 +10,7 @@ use native.Mathlib.Numerals.{add-one}
 use borrow.Author.Tests.{ne-eqb}
 use lib.Dec.{eqb}
 use lib.ListN.{getD, set, length, length-set}
+use Rattle.words.specs.Layout as at
 use Rattle.words.specs.Layout.{entryAt}
 use Rattle.objects.specs.Objects.{dpcsBase}
 use Rattle.dpcs.specs.Record.{placeAt, dpcCount, queueChain}
@@ -48,16 +49,16 @@ kept-rises f i j e l = omega (arith, kept-step f i e, kept-mono f (suc i) j l)
 
 module _ (base : ℕ) (near : base ≤ 1000000) (v : List ℕ) (i last : ℕ) (few : i ≤ 8192) where
   marked : Bool
-  marked = eqb (getD v (base + 32 * i + 1) 0) 9
+  marked = eqb (getD v (base + 32 * i + at.phase) 0) 9
 
-  put-is : numberPut v (entryAt base i) last ≡ cond marked v (set v (base + 32 * i + 21) (last + 1))
+  put-is : numberPut v (entryAt base i) last ≡ cond marked v (set v (base + 32 * i + at.newNumber) (last + 1))
   unfolding numberPut marked
-  put-is = ap (λ (p : ℕ). cond (eqb (getD v (p + 1) 0) 9) v (set v (p + 21) (last + 1))) (entry-is base i near few)
+  put-is = ap (λ (p : ℕ). cond (eqb (getD v (p + at.phase) 0) 9) v (set v (p + at.newNumber) (last + 1))) (entry-is base i near few)
 
   to-is : (f : ℕ → Bool) → stays v base i ≡ f i → last ≡ keptBelow f i → numberTo v (entryAt base i) last ≡ keptBelow f (i + 1)
   unfolding numberTo marked
   to-is f s e =
-      ap (λ (p : ℕ). cond (eqb (getD v (p + 1) 0) 9) last (last + 1)) (entry-is base i near few)
+      ap (λ (p : ℕ). cond (eqb (getD v (p + at.phase) 0) 9) last (last + 1)) (entry-is base i near few)
       ∙ go marked (f i) s ∙ ap (keptBelow f) (sym (add-one i))
     where
       go : (m b : Bool) → not m ≡ b → cond m last (last + 1) ≡ cond b (suc (keptBelow f i)) (keptBelow f i)
@@ -69,31 +70,31 @@ module _ (base : ℕ) (near : base ≤ 1000000) (v : List ℕ) (i last : ℕ) (f
   put-other : (j : ℕ) → (j ≡ base + 32 * i + 21 → ⊥) → getD (numberPut v (entryAt base i) last) j 0 ≡ getD v j 0
   put-other j ne = ap (λ (u : List ℕ). getD u j 0) put-is ∙ go marked
     where
-      go : (m : Bool) → getD (cond m v (set v (base + 32 * i + 21) (last + 1))) j 0 ≡ getD v j 0
+      go : (m : Bool) → getD (cond m v (set v (base + 32 * i + at.newNumber) (last + 1))) j 0 ≡ getD v j 0
       go true = refl
-      go false = read-other v (base + 32 * i + 21) j (last + 1) ne
+      go false = read-other v (base + 32 * i + at.newNumber) j (last + 1) ne
 
-  put-same : stays v base i ≡ true → base + 32 * i + 21 < length v → getD (numberPut v (entryAt base i) last) (base + 32 * i + 21) 0 ≡ suc last
+  put-same : stays v base i ≡ true → base + 32 * i + 21 < length v → getD (numberPut v (entryAt base i) last) (base + 32 * i + at.newNumber) 0 ≡ suc last
   unfolding marked
-  put-same s inside = ap (λ (u : List ℕ). getD u (base + 32 * i + 21) 0) put-is ∙ go marked s
+  put-same s inside = ap (λ (u : List ℕ). getD u (base + 32 * i + at.newNumber) 0) put-is ∙ go marked s
     where
-      go : (m : Bool) → not m ≡ true → getD (cond m v (set v (base + 32 * i + 21) (last + 1))) (base + 32 * i + 21) 0 ≡ suc last
+      go : (m : Bool) → not m ≡ true → getD (cond m v (set v (base + 32 * i + at.newNumber) (last + 1))) (base + 32 * i + at.newNumber) 0 ≡ suc last
       go true q = absurd (not-both (sym q))
-      go false q = read-same v (base + 32 * i + 21) (last + 1) inside ∙ add-one last
+      go false q = read-same v (base + 32 * i + at.newNumber) (last + 1) inside ∙ add-one last
 
   put-length : length (numberPut v (entryAt base i) last) ≡ length v
   put-length = ap length put-is ∙ go marked
     where
-      go : (m : Bool) → length (cond m v (set v (base + 32 * i + 21) (last + 1))) ≡ length v
+      go : (m : Bool) → length (cond m v (set v (base + 32 * i + at.newNumber) (last + 1))) ≡ length v
       go true = refl
-      go false = length-set v (base + 32 * i + 21) (last + 1)
+      go false = length-set v (base + 32 * i + at.newNumber) (last + 1)
 
 -- ---- all from position `i` on
 
 module _ (base n : ℕ) (near : base ≤ 1000000) (few : n ≤ 4096) (f : ℕ → Bool) where
   record Given (v v′ : List ℕ) (i : ℕ) : Type 0 where
     others : (j : ℕ) → ((k : ℕ) → i ≤ k → k < n → j ≡ base + 32 * k + 21 → ⊥) → getD v′ j 0 ≡ getD v j 0
-    own : (k : ℕ) → i ≤ k → k < n → f k ≡ true → getD v′ (base + 32 * k + 21) 0 ≡ suc (keptBelow f k)
+    own : (k : ℕ) → i ≤ k → k < n → f k ≡ true → getD v′ (base + 32 * k + at.newNumber) 0 ≡ suc (keptBelow f k)
     size : length v′ ≡ length v
 
   given-in : (m : ℕ) (v : List ℕ) (i last : ℕ) → i + m ≡ n → base + 32 * n ≤ length v → ((k : ℕ) → i ≤ k → k < n → stays v base k ≡ f k)
@@ -102,7 +103,7 @@ module _ (base n : ℕ) (near : base ≤ 1000000) (few : n ≤ 4096) (f : ℕ �
   given-in zero v i last all long same e = record { others = λ j out. refl; own = λ k a b t. absurd (omega arith); size = refl }
   given-in (suc m) v i last all long same e =
       go (given-in m v₁ (i + 1) last₁ (omega arith) (omega (arith, put-length base near v i last low))
-      (λ k a b. ap (λ (x : ℕ). not (eqb x 9)) (put-other base near v i last low (base + 32 * k + 1) (λ q. omega (arith, q))) ∙ same k (omega arith) b)
+      (λ k a b. ap (λ (x : ℕ). not (eqb x 9)) (put-other base near v i last low (base + 32 * k + at.phase) (λ q. omega (arith, q))) ∙ same k (omega arith) b)
       (to-is base near v i last low f (same i (omega arith) (omega arith)) e))
     where
       low : i ≤ 8192
@@ -121,10 +122,10 @@ module _ (base n : ℕ) (near : base ≤ 1000000) (few : n ≤ 4096) (f : ℕ �
         size = g .size ∙ put-length base near v i last low;
       }
         where
-          own : (k : ℕ) → i ≤ k → k < n → f k ≡ true → Dec (k ≡ i) → getD (numberedIn m v₁ base (i + 1) last₁) (base + 32 * k + 21) 0 ≡ suc (keptBelow f k)
+          own : (k : ℕ) → i ≤ k → k < n → f k ≡ true → Dec (k ≡ i) → getD (numberedIn m v₁ base (i + 1) last₁) (base + 32 * k + at.newNumber) 0 ≡ suc (keptBelow f k)
           own k a b t (no ne) = g .own k (omega (arith, ne)) b t
-          own k a b t (yes q) = subst (λ (z : ℕ). getD (numberedIn m v₁ base (i + 1) last₁) (base + 32 * z + 21) 0 ≡ suc (keptBelow f z)) (sym q)
-              (g .others (base + 32 * i + 21) (λ z c d s. omega (arith, s))
+          own k a b t (yes q) = subst (λ (z : ℕ). getD (numberedIn m v₁ base (i + 1) last₁) (base + 32 * z + at.newNumber) 0 ≡ suc (keptBelow f z)) (sym q)
+              (g .others (base + 32 * i + at.newNumber) (λ z c d s. omega (arith, s))
               ∙ put-same base near v i last low (same i (omega arith) (omega arith) ∙ ap f (sym q) ∙ t) (omega arith) ∙ ap suc e)
 
 -- ---- the table of DPCs
@@ -141,7 +142,7 @@ module _ (w : List ℕ) (near : dpcsBase w ≤ 1000000) (long : dpcsBase w + 32 
   length-numbered = given .size
 
   -- it writes word 21 of records
-  pub numbered-outside : (R : ℕ → Type 0) → ((i : ℕ) → i < dpcCount w → R (dpcsBase w + 32 * i + 21) → ⊥) → Same R w (numbered w)
+  pub numbered-outside : (R : ℕ → Type 0) → ((i : ℕ) → i < dpcCount w → R (dpcsBase w + 32 * i + at.newNumber) → ⊥) → Same R w (numbered w)
   numbered-outside R out j x = given .others j (λ k a b e. out k b (subst R e x))
 
   numbered-limits : Same (λ (j : ℕ). j ≤ 1) w (numbered w)
@@ -155,12 +156,12 @@ module _ (w : List ℕ) (near : dpcsBase w ≤ 1000000) (long : dpcsBase w + 32 
   holds-numbered n xs few st h =
       subst (λ c. Holds (numbered w) c xs) (sym (queue-depends w (numbered w) numbered-limits))
       (holds-depends w (queueChain w) xs h (numbered w)
-      (numbered-outside (Own (queueChain w) xs) (λ i l own. go i (queue-cases w n (dpcsBase w + 32 * i + 21) few (own-place n xs st (queueChain w) (dpcsBase w + 32 * i + 21) own)))))
+      (numbered-outside (Own (queueChain w) xs) (λ i l own. go i (queue-cases w n (dpcsBase w + 32 * i + at.newNumber) few (own-place n xs st (queueChain w) (dpcsBase w + 32 * i + at.newNumber) own)))))
     where
-      low : 96 ≤ dpcsBase w
+      low : at.unused ≤ dpcsBase w
       low = base-least w
 
-      go : (i : ℕ) → (dpcsBase w + 32 * i + 21 ≡ 24) ⊎ ((dpcsBase w + 32 * i + 21 ≡ 23) ⊎ ((y : ℕ) × (1 ≤ y) × (y ≤ n) × (dpcsBase w + 32 * i + 21 ≡ dpcsBase w - 30 + 32 * y))) → ⊥
+      go : (i : ℕ) → (dpcsBase w + 32 * i + 21 ≡ at.queueLast) ⊎ ((dpcsBase w + 32 * i + 21 ≡ at.queueFirst) ⊎ ((y : ℕ) × (1 ≤ y) × (y ≤ n) × (dpcsBase w + 32 * i + 21 ≡ dpcsBase w - at.queueLinkBefore + 32 * y))) → ⊥
       go i (inl e) = omega (arith, low)
       go i (inr (inl e)) = omega (arith, low)
       go i (inr (inr (y, o, k, e))) = omega (arith, low)
@@ -169,8 +170,8 @@ module _ (w : List ℕ) (near : dpcsBase w ≤ 1000000) (long : dpcsBase w + 32 
   pub new-is : (y : ℕ) → 1 ≤ y → y ≤ dpcCount w → stays w (dpcsBase w) (y - 1) ≡ true → newNumber (numbered w) y ≡ suc (keptBelow (stays w (dpcsBase w)) (y - 1))
   unfolding newNumber
   new-is y one le t =
-      ap (λ (b : Bool). cond b 0 (getD (numbered w) (placeAt (numbered w) y + 21) 0)) (ne-eqb y 0 (λ e. omega (arith, e)))
-      ∙ ap (λ (p : ℕ). getD (numbered w) (p + 21) 0)
+      ap (λ (b : Bool). cond b 0 (getD (numbered w) (placeAt (numbered w) y + at.newNumber) 0)) (ne-eqb y 0 (λ e. omega (arith, e)))
+      ∙ ap (λ (p : ℕ). getD (numbered w) (p + at.newNumber) 0)
       (place-is (numbered w) y (omega (arith, near, base-numbered)) one (omega (arith, count-most w)) ∙ ap (λ (b : ℕ). b + 32 * (y - 1)) base-numbered)
       ∙ given .own (y - 1) (omega arith) (omega arith) t
 

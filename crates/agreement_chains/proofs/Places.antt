@@ -66,7 +66,7 @@ module _ (c : Chain) where
 
 -- words 32 to 63 are firsts, 64 to 95 lasts; the link is word 2 of a thread's record
 abbrev pub queueOf : ℕ → Chain
-queueOf p = record { first = 32 + p; last = 64 + p; link = 98; stride = 160 }
+queueOf p = record { first = at.readyFirst + p; last = at.readyLast + p; link = at.readyLink; stride = at.threadSize }
 
 pub ready-is : (p : ℕ) → p ≤ 31 → readyChain p ≡ queueOf p
 unfolding readyChain
@@ -88,22 +88,22 @@ waiters-apart n m room =
 pub queue-apart : (w : List ℕ) (n m : ℕ) → n ≤ 4096 → dpcsBase w + 32 * n ≤ m → Apart (queueChain w) n m
 unfolding queueChain
 queue-apart w n m few long =
-    let low : 96 ≤ dpcsBase w = base-least w in
+    let low : at.unused ≤ dpcsBase w = base-least w in
     apart-of (queueChain w) n m few (omega arith) (λ e. omega (arith, e)) (omega (arith, low, long)) (omega (arith, low, long))
     (λ y one le. (omega (arith, low), omega (arith, low), omega (arith, low, long)))
 
 -- ---- the places of the chains, as numbers
 
-module _ (n j : ℕ) (few : n ≤ 256) where
-  pub ready-cases : (p : ℕ) → p ≤ 31 → Places (readyChain p) n j → (j ≡ 64 + p) ⊎ ((j ≡ 32 + p) ⊎ ((y : ℕ) × (1 ≤ y) × (y ≤ n) × (j ≡ 98 + 160 * y)))
+module _ (n j : ℕ) (few : n ≤ at.mostThreads) where
+  pub ready-cases : (p : ℕ) → p ≤ 31 → Places (readyChain p) n j → (j ≡ 64 + p) ⊎ ((j ≡ 32 + p) ⊎ ((y : ℕ) × (1 ≤ y) × (y ≤ n) × (j ≡ at.threadWord at.nextReady y)))
   ready-cases p hp m = place-cases (queueOf p) n j (omega arith) (subst (λ (c : Chain). Places c n j) (ready-is p hp) m)
 
-  pub waiters-cases : Places waitersChain n j → (j ≡ 22) ⊎ ((j ≡ 21) ⊎ ((y : ℕ) × (1 ≤ y) × (y ≤ n) × (j ≡ 99 + 160 * y)))
+  pub waiters-cases : Places waitersChain n j → (j ≡ 22) ⊎ ((j ≡ 21) ⊎ ((y : ℕ) × (1 ≤ y) × (y ≤ n) × (j ≡ at.threadWord at.nextWaiter y)))
   unfolding waitersChain
   waiters-cases m = place-cases waitersChain n j (omega arith) m
 
 pub queue-cases : (w : List ℕ) (n j : ℕ) → n ≤ 4096 → Places (queueChain w) n j
-    → (j ≡ 24) ⊎ ((j ≡ 23) ⊎ ((y : ℕ) × (1 ≤ y) × (y ≤ n) × (j ≡ dpcsBase w - 30 + 32 * y)))
+    → (j ≡ at.queueLast) ⊎ ((j ≡ at.queueFirst) ⊎ ((y : ℕ) × (1 ≤ y) × (y ≤ n) × (j ≡ dpcsBase w - at.queueLinkBefore + 32 * y)))
 unfolding queueChain
 queue-cases w n j few m = place-cases (queueChain w) n j few m
 
@@ -117,7 +117,7 @@ base-depends w v same =
 
 -- word 2 of a DPC's record
 abbrev pub queueFrom : ℕ → Chain
-queueFrom base = record { first = 23; last = 24; link = base - 30; stride = 32 }
+queueFrom base = record { first = at.queueFirst; last = at.queueLast; link = base - at.queueLinkBefore; stride = at.recordSize }
 
 pub queue-is : (w : List ℕ) (base : ℕ) → dpcsBase w ≡ base → queueChain w ≡ queueFrom base
 unfolding queueChain
@@ -130,13 +130,13 @@ pub entry-is : (base i : ℕ) → base ≤ 1000000 → i ≤ 8192 → entryAt ba
 unfolding entryAt
 entry-is base i near few = simp (le-leb base 1000000 near, le-leb i 8192 few)
 
-pub base-is : (w : List ℕ) (t o : ℕ) → getD w at.threadLimit 0 ≡ t → getD w at.objectLimit 0 ≡ o → t ≤ 256 → o ≤ 4096 → dpcsBase w ≡ 256 + 160 * t + 32 * o
+pub base-is : (w : List ℕ) (t o : ℕ) → getD w at.threadLimit 0 ≡ t → getD w at.objectLimit 0 ≡ o → t ≤ at.mostThreads → o ≤ 4096 → dpcsBase w ≡ at.headerSize + at.threadSize * t + 32 * o
 unfolding dpcsBase objectsBase objectsAt
 base-is w t o a b ht ho =
-    ap (λ (x : ℕ). entryAt (cond (leb x 256) (256 + 160 * x) 256) (getD w at.objectLimit 0)) a
-    ∙ ap (λ (y : ℕ). entryAt (cond (leb t 256) (256 + 160 * t) 256) y) b
-    ∙ ap (λ (k : Bool). entryAt (cond k (256 + 160 * t) 256) o) (le-leb t 256 ht)
-    ∙ entry-is (256 + 160 * t) o (omega arith) (omega arith)
+    ap (λ (x : ℕ). entryAt (cond (leb x at.mostThreads) (at.headerSize + at.threadSize * x) at.headerSize) (getD w at.objectLimit 0)) a
+    ∙ ap (λ (y : ℕ). entryAt (cond (leb t at.mostThreads) (at.headerSize + at.threadSize * t) at.headerSize) y) b
+    ∙ ap (λ (k : Bool). entryAt (cond k (at.headerSize + at.threadSize * t) at.headerSize) o) (le-leb t at.mostThreads ht)
+    ∙ entry-is (at.headerSize + at.threadSize * t) o (omega arith) (omega arith)
 
 pub place-is : (w : List ℕ) (y : ℕ) → dpcsBase w ≤ 1000000 → 1 ≤ y → y ≤ 4096 → placeAt w y ≡ dpcsBase w + 32 * (y - 1)
 unfolding placeAt
@@ -145,14 +145,14 @@ place-is w y near one few = simp (ne-eqb y 0 (λ e. omega (arith, e)), le-ltb 40
 -- ---- no two chains have a place in common
 
 -- two ready queues, where no thread stands in both
-pub ready-ready : (n p q : ℕ) (xs ys : List ℕ) → n ≤ 256 → p ≤ 31 → q ≤ 31 → (p ≡ q → ⊥) → Standing n xs → Standing n ys
+pub ready-ready : (n p q : ℕ) (xs ys : List ℕ) → n ≤ at.mostThreads → p ≤ 31 → q ≤ 31 → (p ≡ q → ⊥) → Standing n xs → Standing n ys
     → ((y : ℕ) → Mem y xs → Mem y ys → ⊥) → (j : ℕ) → Own (readyChain p) xs j → Own (readyChain q) ys j → ⊥
 ready-ready n p q xs ys few hp hq ne sx sy two j a b =
     go (own-cases (queueOf p) n xs j (omega arith) sx (subst (λ (c : Chain). Own c xs j) (ready-is p hp) a))
     (own-cases (queueOf q) n ys j (omega arith) sy (subst (λ (c : Chain). Own c ys j) (ready-is q hq) b))
   where
-    go : (j ≡ 64 + p) ⊎ ((j ≡ 32 + p) ⊎ ((y : ℕ) × (Mem y xs) × (j ≡ 98 + 160 * y)))
-        → (j ≡ 64 + q) ⊎ ((j ≡ 32 + q) ⊎ ((y : ℕ) × (Mem y ys) × (j ≡ 98 + 160 * y))) → ⊥
+    go : (j ≡ 64 + p) ⊎ ((j ≡ 32 + p) ⊎ ((y : ℕ) × (Mem y xs) × (j ≡ at.threadWord at.nextReady y)))
+        → (j ≡ 64 + q) ⊎ ((j ≡ 32 + q) ⊎ ((y : ℕ) × (Mem y ys) × (j ≡ at.threadWord at.nextReady y))) → ⊥
     go (inl e) (inl f) = ne (omega arith)
     go (inl e) (inr (inl f)) = omega arith
     go (inl e) (inr (inr (y, m, f))) = omega arith
@@ -164,12 +164,12 @@ ready-ready n p q xs ys few hp hq ne sx sy two j a b =
     go (inr (inr (x, k, e))) (inr (inr (y, m, f))) =
         let z : y ≡ x = omega arith in two x k (subst (λ (i : ℕ). Mem i ys) z m)
 
-module _ (n j : ℕ) (few : n ≤ 256) where
+module _ (n j : ℕ) (few : n ≤ at.mostThreads) where
   pub ready-waiters : (p : ℕ) → p ≤ 31 → Places (readyChain p) n j → Places waitersChain n j → ⊥
   ready-waiters p hp a b = go (ready-cases n j few p hp a) (waiters-cases n j few b)
     where
-      go : (j ≡ 64 + p) ⊎ ((j ≡ 32 + p) ⊎ ((y : ℕ) × (1 ≤ y) × (y ≤ n) × (j ≡ 98 + 160 * y)))
-          → (j ≡ 22) ⊎ ((j ≡ 21) ⊎ ((y : ℕ) × (1 ≤ y) × (y ≤ n) × (j ≡ 99 + 160 * y))) → ⊥
+      go : (j ≡ 64 + p) ⊎ ((j ≡ 32 + p) ⊎ ((y : ℕ) × (1 ≤ y) × (y ≤ n) × (j ≡ at.threadWord at.nextReady y)))
+          → (j ≡ 22) ⊎ ((j ≡ 21) ⊎ ((y : ℕ) × (1 ≤ y) × (y ≤ n) × (j ≡ at.threadWord at.nextWaiter y))) → ⊥
       go (inl e) (inl f) = omega arith
       go (inl e) (inr (inl f)) = omega arith
       go (inl e) (inr (inr (y, o, k, f))) = omega arith
@@ -183,7 +183,7 @@ module _ (n j : ℕ) (few : n ≤ 256) where
   pub ready-word : (p : ℕ) → p ≤ 31 → Places (readyChain p) n j → j ≡ at.ready → ⊥
   ready-word p hp a e = go (ready-cases n j few p hp a)
     where
-      go : (j ≡ 64 + p) ⊎ ((j ≡ 32 + p) ⊎ ((y : ℕ) × (1 ≤ y) × (y ≤ n) × (j ≡ 98 + 160 * y))) → ⊥
+      go : (j ≡ 64 + p) ⊎ ((j ≡ 32 + p) ⊎ ((y : ℕ) × (1 ≤ y) × (y ≤ n) × (j ≡ at.threadWord at.nextReady y))) → ⊥
       go (inl f) = omega arith
       go (inr (inl f)) = omega arith
       go (inr (inr (y, o, k, f))) = omega arith
@@ -191,7 +191,7 @@ module _ (n j : ℕ) (few : n ≤ 256) where
   pub waiters-word : Places waitersChain n j → j ≡ at.ready → ⊥
   waiters-word a e = go (waiters-cases n j few a)
     where
-      go : (j ≡ 22) ⊎ ((j ≡ 21) ⊎ ((y : ℕ) × (1 ≤ y) × (y ≤ n) × (j ≡ 99 + 160 * y))) → ⊥
+      go : (j ≡ 22) ⊎ ((j ≡ 21) ⊎ ((y : ℕ) × (1 ≤ y) × (y ≤ n) × (j ≡ at.threadWord at.nextWaiter y))) → ⊥
       go (inl f) = omega arith
       go (inr (inl f)) = omega arith
       go (inr (inr (y, o, k, f))) = omega arith
@@ -202,12 +202,12 @@ module _ (n j : ℕ) (few : n ≤ 256) where
   waiters-ready a (inr (p, one, hp, b)) = ready-waiters p hp b a
 
   -- the DPCs stand behind the threads
-  module _ (w : List ℕ) (d : ℕ) (most : d ≤ 4096) (behind : 256 + 160 * n ≤ dpcsBase w) (b : Places (queueChain w) d j) where
+  module _ (w : List ℕ) (d : ℕ) (most : d ≤ 4096) (behind : at.headerSize + at.threadSize * n ≤ dpcsBase w) (b : Places (queueChain w) d j) where
     pub queue-waiters : Places waitersChain n j → ⊥
     queue-waiters a = go (waiters-cases n j few a) (queue-cases w d j most b)
       where
-        go : (j ≡ 22) ⊎ ((j ≡ 21) ⊎ ((y : ℕ) × (1 ≤ y) × (y ≤ n) × (j ≡ 99 + 160 * y)))
-            → (j ≡ 24) ⊎ ((j ≡ 23) ⊎ ((y : ℕ) × (1 ≤ y) × (y ≤ d) × (j ≡ dpcsBase w - 30 + 32 * y))) → ⊥
+        go : (j ≡ 22) ⊎ ((j ≡ 21) ⊎ ((y : ℕ) × (1 ≤ y) × (y ≤ n) × (j ≡ at.threadWord at.nextWaiter y)))
+            → (j ≡ at.queueLast) ⊎ ((j ≡ at.queueFirst) ⊎ ((y : ℕ) × (1 ≤ y) × (y ≤ d) × (j ≡ dpcsBase w - at.queueLinkBefore + 32 * y))) → ⊥
         go (inl e) (inl f) = omega arith
         go (inl e) (inr (inl f)) = omega arith
         go (inl e) (inr (inr (y, o, k, f))) = omega arith
@@ -221,14 +221,14 @@ module _ (n j : ℕ) (few : n ≤ 256) where
     pub queue-ready : ReadyPlace n j → ⊥
     queue-ready (inl e) = word (queue-cases w d j most b)
       where
-        word : (j ≡ 24) ⊎ ((j ≡ 23) ⊎ ((y : ℕ) × (1 ≤ y) × (y ≤ d) × (j ≡ dpcsBase w - 30 + 32 * y))) → ⊥
+        word : (j ≡ at.queueLast) ⊎ ((j ≡ at.queueFirst) ⊎ ((y : ℕ) × (1 ≤ y) × (y ≤ d) × (j ≡ dpcsBase w - at.queueLinkBefore + 32 * y))) → ⊥
         word (inl f) = omega arith
         word (inr (inl f)) = omega arith
         word (inr (inr (y, o, k, f))) = omega arith
     queue-ready (inr (p, one, hp, a)) = go (ready-cases n j few p hp a) (queue-cases w d j most b)
       where
-        go : (j ≡ 64 + p) ⊎ ((j ≡ 32 + p) ⊎ ((y : ℕ) × (1 ≤ y) × (y ≤ n) × (j ≡ 98 + 160 * y)))
-            → (j ≡ 24) ⊎ ((j ≡ 23) ⊎ ((y : ℕ) × (1 ≤ y) × (y ≤ d) × (j ≡ dpcsBase w - 30 + 32 * y))) → ⊥
+        go : (j ≡ 64 + p) ⊎ ((j ≡ 32 + p) ⊎ ((y : ℕ) × (1 ≤ y) × (y ≤ n) × (j ≡ at.threadWord at.nextReady y)))
+            → (j ≡ at.queueLast) ⊎ ((j ≡ at.queueFirst) ⊎ ((y : ℕ) × (1 ≤ y) × (y ≤ d) × (j ≡ dpcsBase w - at.queueLinkBefore + 32 * y))) → ⊥
         go (inl e) (inl f) = omega arith
         go (inl e) (inr (inl f)) = omega arith
         go (inl e) (inr (inr (y, o, k, f))) = omega arith

@@ -33,24 +33,24 @@ new-zero w = refl
 module _ (n : ℕ) (w v : List ℕ) (same : Same (Told w n) w v) where
   place-same : (y : ℕ) → placeAt v y ≡ placeAt w y
   unfolding placeAt
-  place-same y = ap (λ (b : ℕ). cond (eqb y 0) 96 (cond (ltb 4096 y) 96 (entryAt b (y - 1)))) (base-depends w v (λ j le. same j (inl le)))
+  place-same y = ap (λ (b : ℕ). cond (eqb y 0) at.unused (cond (ltb 4096 y) at.unused (entryAt b (y - 1)))) (base-depends w v (λ j le. same j (inl le)))
 
   pub new-depends : (y : ℕ) → y ≤ n → newNumber v y ≡ newNumber w y
   unfolding newNumber
   new-depends zero le = refl
   new-depends (suc k) le =
       ap (λ (m : ℕ). cond (eqb (suc k) 0) 0 m)
-      (ap (λ (p : ℕ). getD v (p + 21) 0) (place-same (suc k)) ∙ same (placeAt w (suc k) + 21) (inr (suc k, omega arith, le, refl)))
+      (ap (λ (p : ℕ). getD v (p + at.newNumber) 0) (place-same (suc k)) ∙ same (placeAt w (suc k) + at.newNumber) (inr (suc k, omega arith, le, refl)))
 
 -- ---- word 21 is no link
 
 pub told-apart : (w : List ℕ) (n j : ℕ) → n ≤ 4096 → dpcsBase w ≤ 1000000 → Places (queueChain w) n j → Told w n j → ⊥
 told-apart w n j few near a b = go (queue-cases w n j few a) b
   where
-    low : 96 ≤ dpcsBase w
+    low : at.unused ≤ dpcsBase w
     low = base-least w
 
-    go : (j ≡ 24) ⊎ ((j ≡ 23) ⊎ ((y : ℕ) × (1 ≤ y) × (y ≤ n) × (j ≡ dpcsBase w - 30 + 32 * y))) → Told w n j → ⊥
+    go : (j ≡ at.queueLast) ⊎ ((j ≡ at.queueFirst) ⊎ ((y : ℕ) × (1 ≤ y) × (y ≤ n) × (j ≡ dpcsBase w - at.queueLinkBefore + 32 * y))) → Told w n j → ⊥
     go (inl e) (inl f) = omega arith
     go (inr (inl e)) (inl f) = omega arith
     go (inr (inr (x, u, v, e))) (inl f) = omega (arith, low)

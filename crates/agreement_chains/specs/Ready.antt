@@ -34,8 +34,8 @@ byPriority prio placed p = keep (λ x. eqb (prio x) p) placed
 
 -- words enough for `n` threads
 pub record Room (n m : ℕ) : Type 0 where
-  pub few : n ≤ 256
-  pub long : 256 + 160 * n ≤ m
+  pub few : n ≤ at.mostThreads
+  pub long : at.headerSize + at.threadSize * n ≤ m
 
 -- the places of all ready queues: the ready word, and those of the 31 chains
 abbrev pub ReadyPlace : ℕ → ℕ → Type 0

@@ -7,6 +7,7 @@ use native.Mathlib.Omega.{arith}
 use borrow.Author.Tests.{ne-eqb}
 use lib.Dec.{eqb}
 use lib.ListN.{length}
+use Rattle.words.specs.Layout as at
 use Rattle.dpc_work.specs.Work as words
 use Rattle.answers.specs.Outcome.{outcome}
 use Rattle.answers.specs.declared.Answer.the-variants as answer
@@ -54,13 +55,13 @@ module _ (w : List ℕ) (s : State) (a : Agree w s) where
   untouched-is =
       simp (
         policy-is w s (holderOf (s .dispatcher .objects)) (activeAddress (s .dpcs .table)) a,
-        a .numbers 3 (length (s .dispatcher .threads)) refl,
-        a .numbers 6 (s .dispatcher .current) refl,
-        a .numbers 7 (s .dispatcher .sequence) refl,
-        a .numbers 8 (s .now) refl,
-        a .numbers 4 (length (s .dispatcher .objects)) refl,
-        a .numbers 5 (length (s .dpcs .table)) refl,
-        a .numbers 13 (s .dpcs .counters .accepted) refl,
+        a .numbers at.threads (length (s .dispatcher .threads)) refl,
+        a .numbers at.current (s .dispatcher .current) refl,
+        a .numbers at.sequence (s .dispatcher .sequence) refl,
+        a .numbers at.now (s .now) refl,
+        a .numbers at.objects (length (s .dispatcher .objects)) refl,
+        a .numbers at.dpcs (length (s .dpcs .table)) refl,
+        a .numbers at.accepted (s .dpcs .counters .accepted) refl,
         empty-is (s .dispatcher .objects),
         empty-is (s .dpcs .table),
         all-of (isUnselected (s .policy)) (eqb (length (s .dispatcher .threads)) 1) (eqb (s .dispatcher .current) 1) (eqb (s .dispatcher .sequence) 0) (eqb (s .now) 0)

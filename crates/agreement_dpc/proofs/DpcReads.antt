@@ -9,6 +9,7 @@ use native.Mathlib.Omega.{arith}
 use borrow.Author.Tests.{ne-eqb, le-ltb, leb-true, leb-false}
 use lib.Dec.{eqb, leb, ltb}
 use lib.ListN.{getD, length}
+use Rattle.words.specs.Layout as at
 use Rattle.chains.specs.Chain.{firstOf}
 use Rattle.images.specs.declared.Dpc.{Dpc}
 use Rattle.dpcs.specs.Record as record-words
@@ -56,9 +57,9 @@ module _ (w : List ℕ) (s : State) (a : Agree w s) where
 
   pub read-policy : toldPolicy (words.policyRead w) ≡ step (call.Reads call.DpcPolicy) s .answer
   unfolding words.policyRead readRefusal readAnswer
-  read-policy = go (s .policy) (a .numbers 10 (policyNumber (s .policy)) refl) (a .numbers 11 (firstArgument (s .policy)) refl) (a .numbers 12 (secondArgument (s .policy)) refl) ∙ sym (read-answers call.DpcPolicy s refl)
+  read-policy = go (s .policy) (a .numbers at.policy (policyNumber (s .policy)) refl) (a .numbers at.timerArgument (firstArgument (s .policy)) refl) (a .numbers at.timerArgument2 (secondArgument (s .policy)) refl) ∙ sym (read-answers call.DpcPolicy s refl)
     where
-      go : (p : Policy) → getD w 10 0 ≡ policyNumber p → getD w 11 0 ≡ firstArgument p → getD w 12 0 ≡ secondArgument p → toldPolicy (words.policyRead w) ≡ log.PolicyIs p
+      go : (p : Policy) → getD w at.policy 0 ≡ policyNumber p → getD w at.timerArgument 0 ≡ firstArgument p → getD w at.timerArgument2 0 ≡ secondArgument p → toldPolicy (words.policyRead w) ≡ log.PolicyIs p
       go unselected e f g = simp (e)
       go (cpu0Dispatch first second) e f g = simp (e, f, g)
 
@@ -69,17 +70,17 @@ module _ (w : List ℕ) (s : State) (a : Agree w s) where
       same : toldCounters (words.countersRead w) ≡ log.CountersAre (s .dpcs .counters)
       same =
           simp (
-            a .numbers 13 (s .dpcs .counters .accepted) refl,
-            a .numbers 14 (s .dpcs .counters .duplicates) refl,
-            a .numbers 15 (s .dpcs .counters .removed) refl,
-            a .numbers 16 (s .dpcs .counters .started) refl,
-            a .numbers 17 (s .dpcs .counters .returned) refl,
-            a .numbers 18 (s .dpcs .counters .restored) refl,
+            a .numbers at.accepted (s .dpcs .counters .accepted) refl,
+            a .numbers at.duplicates (s .dpcs .counters .duplicates) refl,
+            a .numbers at.removed (s .dpcs .counters .removed) refl,
+            a .numbers at.started (s .dpcs .counters .started) refl,
+            a .numbers at.returned (s .dpcs .counters .returned) refl,
+            a .numbers at.restored (s .dpcs .counters .restored) refl,
           )
 
   pub read-initializations : told (words.initializationsRead w) ≡ step (call.Reads call.DpcInitializations) s .answer
   unfolding words.initializationsRead readRefusal readAnswer
-  read-initializations = ap log.Number (a .numbers 20 (s .dpcInitializations) refl) ∙ sym (read-answers call.DpcInitializations s refl)
+  read-initializations = ap log.Number (a .numbers at.dpcInitializations (s .dpcInitializations) refl) ∙ sym (read-answers call.DpcInitializations s refl)
 
   -- ---- records
 
@@ -102,7 +103,7 @@ module _ (w : List ℕ) (s : State) (a : Agree w s) where
   pub read-dpcs : (i : ℕ) → toldDpc (words.dpcsAt w i) ≡ step (call.Reads (call.Dpcs i)) s .answer
   unfolding words.dpcsAt words.dpcNumbered readRefusal readAnswer
   read-dpcs i =
-      ap (λ (n : ℕ). toldDpc (cond (leb n i) read.None (words.dpcNumbered w (i + 1)))) (a .numbers 5 (length (s .dpcs .table)) refl)
+      ap (λ (n : ℕ). toldDpc (cond (leb n i) read.None (words.dpcNumbered w (i + 1)))) (a .numbers at.dpcs (length (s .dpcs .table)) refl)
       ∙ go (leb (length (s .dpcs .table)) i) refl ∙ sym (read-answers (call.Dpcs i) s refl)
     where
       there : (d : Dpc) → nth (s .dpcs .table) i ≡ some d → words.dpcNumbered w (i + 1) ≡ read.Dpc d
@@ -129,13 +130,13 @@ module _ (w : List ℕ) (s : State) (a : Agree w s) where
   pub read-active : toldDpc (words.activeDpc w) ≡ step (call.Reads call.ActiveDpc) s .answer
   unfolding words.activeDpc readRefusal readAnswer
   read-active =
-      ap (λ (b : Bool). toldDpc (cond b read.None (words.dpcNumbered w (numberOf w (getD w 25 0))))) (active-word w s holder a)
+      ap (λ (b : Bool). toldDpc (cond b read.None (words.dpcNumbered w (numberOf w (getD w at.active 0))))) (active-word w s holder a)
       ∙ go (activeDpc (s .dpcs .table)) refl ∙ sym (read-answers call.ActiveDpc s refl)
     where
-      go : (o : Option Dpc) → activeDpc (s .dpcs .table) ≡ o → toldDpc (cond (not (present o)) read.None (words.dpcNumbered w (numberOf w (getD w 25 0)))) ≡ given o log.None log.DpcIs
+      go : (o : Option Dpc) → activeDpc (s .dpcs .table) ≡ o → toldDpc (cond (not (present o)) read.None (words.dpcNumbered w (numberOf w (getD w at.active 0)))) ≡ given o log.None log.DpcIs
       go none e = refl
       go (some d) e =
-          ap (λ (k : ℕ). toldDpc (words.dpcNumbered w (numberOf w k))) (a .numbers 25 active refl ∙ ap (λ (o : Option Dpc). given o 0 addressOf) e)
+          ap (λ (k : ℕ). toldDpc (words.dpcNumbered w (numberOf w k))) (a .numbers at.active active refl ∙ ap (λ (o : Option Dpc). given o 0 addressOf) e)
           ∙ ap toldDpc (numbered-is (d .address) d (mem-found addressOf (s .dpcs .table) (a .shape .dpcs .rising) d (active-mem (s .dpcs .table) d e)))
 
   pub read-next : toldDpc (words.nextDpc w) ≡ step (call.Reads call.NextDpc) s .answer
@@ -162,7 +163,7 @@ module _ (w : List ℕ) (s : State) (a : Agree w s) where
   read-queued i = go (nth (s .dpcs .queue) i) refl ∙ sym (read-answers (call.QueuedDpcs i) s refl)
     where
       answers : ℕ → Bool → code.Answer
-      answers n b = cond b answer.None (cond (eqb n 0) answer.None (answer.Count (getD w (placeAt w n + 0) 0)))
+      answers n b = cond b answer.None (cond (eqb n 0) answer.None (answer.Count (getD w (placeAt w n + at.address) 0)))
 
       past : (b : Bool) → answers 0 b ≡ answer.None
       past true = refl
@@ -173,7 +174,7 @@ module _ (w : List ℕ) (s : State) (a : Agree w s) where
           let h = nth-in (s .dpcs .queue) i k e in
           ap (λ (n : ℕ). told (answers n (ltb 4095 i))) (number-queued w s holder active a i ∙ map-at (numberIn (s .dpcs .table)) (s .dpcs .queue) i k e ∙ sym (number-is w s holder active a k d f))
           ∙ ap (λ (b : Bool). told (answers (numberOf w k) b)) (le-ltb 4095 i (omega (arith, queue-few w s holder active a)))
-          ∙ ap (λ (b : Bool). told (cond b answer.None (answer.Count (getD w (placeAt w (numberOf w k) + 0) 0)))) (number-known w s holder active a k ∙ ap (λ (o : Option Dpc). not (present o)) f)
+          ∙ ap (λ (b : Bool). told (cond b answer.None (answer.Count (getD w (placeAt w (numberOf w k) + at.address) 0)))) (number-known w s holder active a k ∙ ap (λ (o : Option Dpc). not (present o)) f)
           ∙ ap log.Number (dpc-word w s holder active a k d f 0 (d .address) refl ∙ found addressOf (s .dpcs .table) k d f .1)
 
       go : (o : Option ℕ) → nth (s .dpcs .queue) i ≡ o → told (answers (words.queuedNumber w i) (ltb 4095 i)) ≡ given o log.None log.Number

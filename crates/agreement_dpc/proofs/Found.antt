@@ -8,6 +8,7 @@ use native.Mathlib.Omega.{arith}
 use borrow.Author.Tests.{ne-eqb}
 use lib.Dec.{eqb}
 use lib.ListN.{getD, length}
+use Rattle.words.specs.Layout as at
 use Rattle.images.specs.declared.Dpc.{Dpc}
 use Rattle.objects.specs.Objects.{dpcFound}
 use Rattle.dpcs.specs.Record.{placeAt, numberOf}
@@ -30,8 +31,8 @@ module _ (w : List ℕ) (s : State) (holder : ℕ → ℕ) (active : ℕ) (a : A
   low = omega (arith, a .shape .sizes .limits .threads, a .shape .sizes .limits .objects)
 
   -- whether there is a policy
-  pub policy-is : eqb (getD w 10 0) 0 ≡ isUnselected (s .policy)
-  policy-is = ap (λ (n : ℕ). eqb n 0) (a .numbers 10 (policyNumber (s .policy)) refl) ∙ go (s .policy)
+  pub policy-is : eqb (getD w at.policy 0) 0 ≡ isUnselected (s .policy)
+  policy-is = ap (λ (n : ℕ). eqb n 0) (a .numbers at.policy (policyNumber (s .policy)) refl) ∙ go (s .policy)
     where
       go : (p : Policy) → eqb (policyNumber p) 0 ≡ isUnselected p
       go unselected = refl
@@ -41,12 +42,12 @@ module _ (w : List ℕ) (s : State) (holder : ℕ → ℕ) (active : ℕ) (a : A
     pub number-none : dpcAt (s .dpcs .table) k ≡ none → numberOf w k ≡ 0
     number-none e =
         tables.number-missing addressOf w (dpcsFrom (s .limits)) (s .dpcs .table) low (omega arith) (dpcs-base-is w s holder active a)
-        (a .numbers 5 (length (s .dpcs .table)) refl) (dpcs-few w s holder active a) (a .shape .dpcs .rising) (dpc-keys w s holder active a) k e
+        (a .numbers at.dpcs (length (s .dpcs .table)) refl) (dpcs-few w s holder active a) (a .shape .dpcs .rising) (dpc-keys w s holder active a) k e
 
     pub place-none : dpcAt (s .dpcs .table) k ≡ none → dpcFound w k ≡ 0
     place-none e =
         tables.dpc-missing addressOf w (dpcsFrom (s .limits)) (s .dpcs .table) low (omega arith) (dpcs-base-is w s holder active a)
-        (a .numbers 5 (length (s .dpcs .table)) refl) (dpcs-few w s holder active a) (a .shape .dpcs .rising) (dpc-keys w s holder active a) k e
+        (a .numbers at.dpcs (length (s .dpcs .table)) refl) (dpcs-few w s holder active a) (a .shape .dpcs .rising) (dpc-keys w s holder active a) k e
 
     -- the number is 0 where it is not known
     pub number-known : eqb (numberOf w k) 0 ≡ not (present (dpcAt (s .dpcs .table) k))

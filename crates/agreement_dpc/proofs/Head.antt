@@ -7,6 +7,7 @@ use mathlib.Core.Path.{_≡_, refl, sym, ap, _∙_}
 use native.Mathlib.Omega.{arith}
 use lib.Dec.{eqb}
 use lib.ListN.{getD, length, length-map}
+use Rattle.words.specs.Layout as at
 use Rattle.chains.specs.declared.Chain.{Chain}
 use Rattle.chains.specs.Chain.{firstOf}
 use Rattle.images.specs.declared.Dpc.{Dpc}
@@ -67,5 +68,5 @@ module _ (w : List ℕ) (s : State) (holder : ℕ → ℕ) (active : ℕ) (a : A
 -- ---- the active DPC
 
 module _ (w : List ℕ) (s : State) (holder : ℕ → ℕ) (a : Agreeing w s holder (activeAddress (s .dpcs .table))) where
-  pub active-word : eqb (getD w 25 0) 0 ≡ not (present (activeDpc (s .dpcs .table)))
-  active-word = ap (λ (n : ℕ). eqb n 0) (a .numbers 25 (activeAddress (s .dpcs .table)) refl) ∙ active-none (s .dpcs .table) (a .shape .dpcs .placed)
+  pub active-word : eqb (getD w at.active 0) 0 ≡ not (present (activeDpc (s .dpcs .table)))
+  active-word = ap (λ (n : ℕ). eqb n 0) (a .numbers at.active (activeAddress (s .dpcs .table)) refl) ∙ active-none (s .dpcs .table) (a .shape .dpcs .placed)

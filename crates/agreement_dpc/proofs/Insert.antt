@@ -8,6 +8,7 @@ use native.Mathlib.Omega.{arith}
 use borrow.Author.Tests.{eqb-true, eqb-false, le-leb, lt-leb, leb-false}
 use lib.Dec.{eqb, leb}
 use lib.ListN.{getD}
+use Rattle.words.specs.Layout as at
 use Rattle.images.specs.declared.Dpc.{Dpc}
 use Rattle.images.specs.declared.DpcWork.{DpcWork}
 use Rattle.images.specs.declared.DpcOrigin.{DpcOrigin}
@@ -53,22 +54,22 @@ module _ (w : List ℕ) (s : State) (a : Agree w s) (v : Valid s) (k : ℕ) wher
   -- ---- refusals
 
   -- the count of duplicates at its end: the code asks whether it is that number
-  end-is : eqb (getD w 14 0) (2 ^ 64 - 1) ≡ leb most (s .dpcs .counters .duplicates)
-  end-is = ap (λ (c : ℕ). eqb c most) (a .numbers 14 (s .dpcs .counters .duplicates) refl) ∙ go (eqb (s .dpcs .counters .duplicates) most) refl
+  end-is : eqb (getD w at.duplicates 0) (2 ^ 64 - 1) ≡ leb most (s .dpcs .counters .duplicates)
+  end-is = ap (λ (c : ℕ). eqb c most) (a .numbers at.duplicates (s .dpcs .counters .duplicates) refl) ∙ go (eqb (s .dpcs .counters .duplicates) most) refl
     where
       go : (b : Bool) → eqb (s .dpcs .counters .duplicates) most ≡ b → b ≡ leb most (s .dpcs .counters .duplicates)
       go true q = sym (le-leb most (s .dpcs .counters .duplicates) (omega (arith, eqb-true (s .dpcs .counters .duplicates) most q)))
       go false q = sym (lt-leb most (s .dpcs .counters .duplicates) (omega (arith, eqb-false (s .dpcs .counters .duplicates) most q, a .shape .counted)))
 
   module _ (d : Dpc) (e : dpcAt (s .dpcs .table) k ≡ some d) where
-    phase-word : getD w (placeAt w n + 1) 0 ≡ phaseNumber (d .phase)
+    phase-word : getD w (placeAt w n + at.phase) 0 ≡ phaseNumber (d .phase)
     phase-word = dpc-word w s holder active a k d e 1 (phaseNumber (d .phase)) refl
 
     -- word 14 of a record with work is 0 where a caller put it there
-    origin-word : (x : DpcWork) → d .phase ≡ Queued x → eqb (getD w (placeAt w n + 14) 0) 0 ≡ isCaller (x .origin)
+    origin-word : (x : DpcWork) → d .phase ≡ Queued x → eqb (getD w (placeAt w n + at.origin) 0) 0 ≡ isCaller (x .origin)
     origin-word x q = go (x .origin) refl
       where
-        go : (o : DpcOrigin) → x .origin ≡ o → eqb (getD w (placeAt w n + 14) 0) 0 ≡ isCaller o
+        go : (o : DpcOrigin) → x .origin ≡ o → eqb (getD w (placeAt w n + at.origin) 0) 0 ≡ isCaller o
         go origin.Caller z = ap (λ (m : ℕ). eqb m 0) (dpc-word w s holder active a k d e 14 0
             (ap (λ (p : DpcPhase). getD (dpcRow (holder (d .address)) (inPhase d p)) 14 none) q ∙ ap (λ (o : DpcOrigin). getD (originRow o) 0 none) z))
         go (origin.Timer b c f g h i) z = ap (λ (m : ℕ). eqb m 0) (dpc-word w s holder active a k d e 14 1
@@ -76,18 +77,18 @@ module _ (w : List ℕ) (s : State) (a : Agree w s) (v : Valid s) (k : ℕ) wher
 
     work-refusal-is : words.workRefusal w n ≡ insertInPhase s (d .phase)
     unfolding words.workRefusal words.duplicateRefusal
-    work-refusal-is = ap (λ (m : ℕ). cond (eqb m 1) (words.duplicateRefusal w (placeAt w n)) (cond (eqb m 0) (cond (leb 65536 (getD w 13 0)) 14 0) 19)) phase-word ∙ go (d .phase) refl
+    work-refusal-is = ap (λ (m : ℕ). cond (eqb m 1) (words.duplicateRefusal w (placeAt w n)) (cond (eqb m 0) (cond (leb 65536 (getD w at.accepted 0)) 14 0) 19)) phase-word ∙ go (d .phase) refl
       where
-        go : (p : DpcPhase) → d .phase ≡ p → cond (eqb (phaseNumber p) 1) (words.duplicateRefusal w (placeAt w n)) (cond (eqb (phaseNumber p) 0) (cond (leb 65536 (getD w 13 0)) 14 0) 19) ≡ insertInPhase s p
-        go Idle q = ap (λ (c : ℕ). cond (leb 65536 c) 14 0) (a .numbers 13 (s .dpcs .counters .accepted) refl)
-        go (Queued x) q = ap (λ (b : Bool). cond b (cond (eqb (getD w 14 0) (2 ^ 64 - 1)) 24 0) 21) (origin-word x q) ∙ ap (λ (b : Bool). cond (isCaller (x .origin)) (cond b 24 0) 21) end-is
+        go : (p : DpcPhase) → d .phase ≡ p → cond (eqb (phaseNumber p) 1) (words.duplicateRefusal w (placeAt w n)) (cond (eqb (phaseNumber p) 0) (cond (leb 65536 (getD w at.accepted 0)) 14 0) 19) ≡ insertInPhase s p
+        go Idle q = ap (λ (c : ℕ). cond (leb 65536 c) 14 0) (a .numbers at.accepted (s .dpcs .counters .accepted) refl)
+        go (Queued x) q = ap (λ (b : Bool). cond b (cond (eqb (getD w at.duplicates 0) (2 ^ 64 - 1)) 24 0) 21) (origin-word x q) ∙ ap (λ (b : Bool). cond (isCaller (x .origin)) (cond b 24 0) 21) end-is
         go (Running x) q = refl
         go (Returning x) q = refl
 
   refusal-is : (first second : ℕ) → words.insertRefusal w k ≡ refusal (call.InsertQueueDpc k first second) s
   unfolding words.insertRefusal refusal insertRefusal
   refusal-is first second =
-      ap (λ (b : Bool). cond b 18 (cond (eqb (getD w 10 0) 0) 20 (cond (eqb n 0) 2 (words.workRefusal w n)))) (named-is w s a v k)
+      ap (λ (b : Bool). cond b 18 (cond (eqb (getD w at.policy 0) 0) 20 (cond (eqb n 0) 2 (words.workRefusal w n)))) (named-is w s a v k)
       ∙ ap (λ (b : Bool). cond (isNamed (s .dispatcher .objects) k) 18 (cond b 20 (cond (eqb n 0) 2 (words.workRefusal w n)))) (policy-is w s holder active a)
       ∙ ap (λ (m : ℕ). cond (isNamed (s .dispatcher .objects) k) 18 (cond (isUnselected (s .policy)) 20 m))
       (ap (λ (b : Bool). cond b 2 (words.workRefusal w n)) (number-known w s holder active a k) ∙ go (dpcAt (s .dpcs .table) k) refl)

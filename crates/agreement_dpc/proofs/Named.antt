@@ -8,6 +8,7 @@ use native.Mathlib.Omega.{arith}
 use borrow.Author.Tests.{eqb-true, eqb-false, ne-eqb}
 use lib.Dec.{eqb}
 use lib.ListN.{getD, length}
+use Rattle.words.specs.Layout as at
 use Rattle.words.specs.Layout.{entryAt}
 use Rattle.images.specs.declared.Timer.{Timer}
 use Rattle.images.specs.declared.Dpc.{Dpc}
@@ -94,20 +95,20 @@ module _ (w : List ℕ) (s : State) (a : Agree w s) (v : Valid s) where
   unfolding words.isNamed
   named-is k = go (eqb k 0) refl
     where
-      known : (d : Dpc) → dpcAt table k ≡ some d → cond (eqb (dpcFound w k) 0) false (not (eqb (getD w (dpcFound w k + 3) 0) 0)) ≡ isNamed objects k
+      known : (d : Dpc) → dpcAt table k ≡ some d → cond (eqb (dpcFound w k) 0) false (not (eqb (getD w (dpcFound w k + at.namedBy) 0) 0)) ≡ isNamed objects k
       known d e =
           let p = dpc-place w s (holderOf objects) (activeAddress table) a k d e in
           let h = dpc-row w s (holderOf objects) (activeAddress table) a k d e 3 (holderOf objects (d .address)) refl in
-          ap (λ (b : Bool). cond b false (not (eqb (getD w (dpcFound w k + 3) 0) 0))) (ne-eqb (dpcFound w k) 0 (λ z. omega (arith, p)))
-          ∙ ap (λ (j : ℕ). not (eqb j 0)) (ap (λ (j : ℕ). getD w (j + 3) 0) p ∙ h ∙ ap (holderOf objects) (found addressOf table k d e .1))
+          ap (λ (b : Bool). cond b false (not (eqb (getD w (dpcFound w k + at.namedBy) 0) 0))) (ne-eqb (dpcFound w k) 0 (λ z. omega (arith, p)))
+          ∙ ap (λ (j : ℕ). not (eqb j 0)) (ap (λ (j : ℕ). getD w (j + at.namedBy) 0) p ∙ h ∙ ap (holderOf objects) (found addressOf table k d e .1))
           ∙ sym (is-named objects (v .sound .rising) (v .sound .places) k)
 
-      other : (o : Option Dpc) → dpcAt table k ≡ o → eqb k 0 ≡ false → cond (eqb (dpcFound w k) 0) false (not (eqb (getD w (dpcFound w k + 3) 0) 0)) ≡ isNamed objects k
+      other : (o : Option Dpc) → dpcAt table k ≡ o → eqb k 0 ≡ false → cond (eqb (dpcFound w k) 0) false (not (eqb (getD w (dpcFound w k + at.namedBy) 0) 0)) ≡ isNamed objects k
       other none e q =
-          ap (λ (j : ℕ). cond (eqb j 0) false (not (eqb (getD w (j + 3) 0) 0))) (place-none w s (holderOf objects) (activeAddress table) a k e)
+          ap (λ (j : ℕ). cond (eqb j 0) false (not (eqb (getD w (j + at.namedBy) 0) 0))) (place-none w s (holderOf objects) (activeAddress table) a k e)
           ∙ sym (unknown-named k (eqb-false k 0 q) e)
       other (some d) e q = known d e
 
-      go : (b : Bool) → eqb k 0 ≡ b → cond b (words.anyBare w) (cond (eqb (dpcFound w k) 0) false (not (eqb (getD w (dpcFound w k + 3) 0) 0))) ≡ isNamed objects k
+      go : (b : Bool) → eqb k 0 ≡ b → cond b (words.anyBare w) (cond (eqb (dpcFound w k) 0) false (not (eqb (getD w (dpcFound w k + at.namedBy) 0) 0))) ≡ isNamed objects k
       go true q = any-bare-is ∙ ap (isNamed objects) (sym (eqb-true k 0 q))
       go false q = other (dpcAt table k) refl q

@@ -7,6 +7,7 @@ use mathlib.Core.Logic.{_⊎_, inl, inr}
 use mathlib.Core.Path.{_≡_, refl, sym, ap, _∙_, subst}
 use lib.Dec.{eqb}
 use lib.ListN.{getD, set}
+use Rattle.words.specs.Layout as at
 use Rattle.images.specs.declared.Dpc.{Dpc}
 use Rattle.images.specs.declared.DpcWork.{DpcWork}
 use Rattle.images.specs.declared.DpcPhase.{DpcPhase}
@@ -51,9 +52,9 @@ module _ (w : List ℕ) (s : State) (a : Agree w s) (v : Valid s) (k sequence : 
 
   -- the phase's number, then the sequence of its work
   abbrev asked : ℕ → ℕ → ℕ
-  asked phase m = cond (eqb m phase) (cond (eqb (getD w (place + 11) 0) sequence) 0 22) 22
+  asked phase m = cond (eqb m phase) (cond (eqb (getD w (place + at.workSequence) 0) sequence) 0 22) 22
 
-  sequence-word : (d : Dpc) → dpcAt (s .dpcs .table) k ≡ some d → (x : DpcWork) → workOf (d .phase) ≡ some x → eqb (getD w (place + 11) 0) sequence ≡ eqb (x .sequence) sequence
+  sequence-word : (d : Dpc) → dpcAt (s .dpcs .table) k ≡ some d → (x : DpcWork) → workOf (d .phase) ≡ some x → eqb (getD w (place + at.workSequence) 0) sequence ≡ eqb (x .sequence) sequence
   sequence-word d e x q = ap (λ (m : ℕ). eqb m sequence) (dpc-word w s holder active a k d e 11 (x .sequence) (row (d .phase) q))
     where
       row : (p : DpcPhase) → workOf p ≡ some x → getD (dpcRow (holder (d .address)) (inPhase d p)) 11 none ≡ some (x .sequence)
@@ -62,9 +63,9 @@ module _ (w : List ℕ) (s : State) (a : Agree w s) (v : Valid s) (k sequence : 
   phase-refusal-is : (phase : ℕ) (f : DpcPhase → Bool) → ((d : Dpc) → dpcAt (s .dpcs .table) k ≡ some d → asked phase (phaseNumber (d .phase)) ≡ cond (f (d .phase)) 0 22)
       → words.phaseRefusal w k phase sequence ≡ cond (present (dpcAt (s .dpcs .table) k)) (cond (f (phaseAt (s .dpcs .table) k)) 0 22) 2
   unfolding words.phaseRefusal
-  phase-refusal-is phase f h = ap (λ (b : Bool). cond b 2 (asked phase (getD w (place + 1) 0))) (number-known w s holder active a k) ∙ go (dpcAt (s .dpcs .table) k) refl
+  phase-refusal-is phase f h = ap (λ (b : Bool). cond b 2 (asked phase (getD w (place + at.phase) 0))) (number-known w s holder active a k) ∙ go (dpcAt (s .dpcs .table) k) refl
     where
-      go : (o : Option Dpc) → dpcAt (s .dpcs .table) k ≡ o → cond (not (present o)) 2 (asked phase (getD w (place + 1) 0)) ≡ cond (present o) (cond (f (phaseAt (s .dpcs .table) k)) 0 22) 2
+      go : (o : Option Dpc) → dpcAt (s .dpcs .table) k ≡ o → cond (not (present o)) 2 (asked phase (getD w (place + at.phase) 0)) ≡ cond (present o) (cond (f (phaseAt (s .dpcs .table) k)) 0 22) 2
       go none e = refl
       go (some d) e =
           ap (asked phase) (dpc-word w s holder active a k d e 1 (phaseNumber (d .phase)) refl) ∙ h d e
@@ -92,9 +93,9 @@ module _ (w : List ℕ) (s : State) (a : Agree w s) (v : Valid s) (k sequence : 
 
   module _ (d : Dpc) (e : dpcAt (s .dpcs .table) k ≡ some d) where
     -- another phase, by the number of the DPC
-    phased : (p : DpcPhase) → (workOf p ≡ workOf (d .phase)) ⊎ (workOf p ≡ none) → Agreeing (set w (place + 1) (phaseNumber p)) (withRecords s (rephased (s .dpcs .table) k p) (s .dpcs .queue)) holder active
+    phased : (p : DpcPhase) → (workOf p ≡ workOf (d .phase)) ⊎ (workOf p ≡ none) → Agreeing (set w (place + at.phase) (phaseNumber p)) (withRecords s (rephased (s .dpcs .table) k p) (s .dpcs .queue)) holder active
     phased p same =
-        subst (λ (b : ℕ). Agreeing (set w (b + 1) (phaseNumber p)) (withRecords s (rephased (s .dpcs .table) k p) (s .dpcs .queue)) holder active) (sym (place-found w s holder active a k d e))
+        subst (λ (b : ℕ). Agreeing (set w (b + at.phase) (phaseNumber p)) (withRecords s (rephased (s .dpcs .table) k p) (s .dpcs .queue)) holder active) (sym (place-found w s holder active a k d e))
         (sim-phase w s holder active a k d e p same)
 
     now-returning : (x : DpcWork) → d .phase ≡ Running x → Agree (words.returning w (numberOf w k)) (withDpcs s (returned (s .dpcs) k x))
@@ -103,11 +104,11 @@ module _ (w : List ℕ) (s : State) (a : Agree w s) (v : Valid s) (k sequence : 
         subst (Agreeing (words.returning w (numberOf w k)) (withDpcs s (returned (s .dpcs) k x)) holder)
         (sym (active-same (s .dpcs .table) (a .shape .dpcs .rising) k d e (Returning x) (sym (ap isActive q))))
         (subst (λ (l : List ℕ). Agreeing l (withDpcs s (returned (s .dpcs) k x)) holder active)
-        (sym (raised-is w₁ 17 (s .dpcs .counters .returned) (b .numbers 17 (s .dpcs .counters .returned) refl) (few-returned (s .limits .dpcs) (s .dpcs) (v .queueing))))
+        (sym (raised-is w₁ 17 (s .dpcs .counters .returned) (b .numbers at.returned (s .dpcs .counters .returned) refl) (few-returned (s .limits .dpcs) (s .dpcs) (v .queueing))))
         (sim-returned w₁ (withRecords s (rephased (s .dpcs .table) k (Returning x)) (s .dpcs .queue)) holder active b))
       where
         w₁ : List ℕ
-        w₁ = set w (placeAt w (numberOf w k) + 1) 3
+        w₁ = set w (placeAt w (numberOf w k) + at.phase) 3
 
         b : Agreeing w₁ (withRecords s (rephased (s .dpcs .table) k (Returning x)) (s .dpcs .queue)) holder active
         b = phased (Returning x) (inl (sym (ap workOf q)))
@@ -119,11 +120,11 @@ module _ (w : List ℕ) (s : State) (a : Agree w s) (v : Valid s) (k sequence : 
         (sym (active-ends (s .dpcs .table) (a .shape .dpcs .rising) k d e Idle refl t (v .queueing .one-active)))
         (sim-active (raised w₁ 18) (withDpcs s (restored (s .dpcs) k)) holder active
         (subst (λ (l : List ℕ). Agreeing l (withDpcs s (restored (s .dpcs) k)) holder active)
-        (sym (raised-is w₁ 18 (s .dpcs .counters .restored) (b .numbers 18 (s .dpcs .counters .restored) refl) (few-restored (s .limits .dpcs) (s .dpcs) (v .queueing))))
+        (sym (raised-is w₁ 18 (s .dpcs .counters .restored) (b .numbers at.restored (s .dpcs .counters .restored) refl) (few-restored (s .limits .dpcs) (s .dpcs) (v .queueing))))
         (sim-restored w₁ (withRecords s (rephased (s .dpcs .table) k Idle) (s .dpcs .queue)) holder active b)) 0)
       where
         w₁ : List ℕ
-        w₁ = set w (placeAt w (numberOf w k) + 1) 0
+        w₁ = set w (placeAt w (numberOf w k) + at.phase) 0
 
         b : Agreeing w₁ (withRecords s (rephased (s .dpcs .table) k Idle) (s .dpcs .queue)) holder active
         b = phased Idle (inr refl)

@@ -8,6 +8,7 @@ use mathlib.Core.Path.{_≡_, refl, sym, ap, _∙_, subst}
 use borrow.Author.Tests.{eqb-true, eqb-false}
 use lib.Dec.{eqb}
 use lib.ListN.{getD, set}
+use Rattle.words.specs.Layout as at
 use Rattle.chains.specs.declared.Chain.{Chain}
 use Rattle.chains.specs.Chain.{firstOf, unlinked}
 use Rattle.images.specs.declared.Dpc.{Dpc}
@@ -70,7 +71,7 @@ module _ (w : List ℕ) (s : State) (a : Agree w s) (v : Valid s) (k : ℕ) wher
 
   -- asked of the first of the queue
   abbrev asked : ℕ → ℕ
-  asked n = cond (eqb n 0) 22 (unless22 (eqb (getD w (placeAt w n + 0) 0) k))
+  asked n = cond (eqb n 0) 22 (unless22 (eqb (getD w (placeAt w n + at.address) 0) k))
 
   -- the code asks the head's address; the log asks also whether the head is queued, as it is
   head-asked : asked (firstOf w (queueChain w)) ≡ unless22 (isHead k (s .dpcs .queue) && isQueued (phaseAt (s .dpcs .table) k))
@@ -85,7 +86,7 @@ module _ (w : List ℕ) (s : State) (a : Agree w s) (v : Valid s) (k : ℕ) wher
       head : (h : ℕ) (t : List ℕ) → s .dpcs .queue ≡ h ∷ t → (d : Dpc) → dpcAt (s .dpcs .table) h ≡ some d → asked (firstOf w (queueChain w)) ≡ unless22 (eqb h k)
       head h t e d f =
           ap asked (head-first w s holder active a h t e d f)
-          ∙ ap (λ (b : Bool). cond b 22 (unless22 (eqb (getD w (placeAt w (numberOf w h) + 0) 0) k))) (number-known w s holder active a h ∙ ap (λ (o : Option Dpc). not (present o)) f)
+          ∙ ap (λ (b : Bool). cond b 22 (unless22 (eqb (getD w (placeAt w (numberOf w h) + at.address) 0) k))) (number-known w s holder active a h ∙ ap (λ (o : Option Dpc). not (present o)) f)
           ∙ ap (λ (m : ℕ). unless22 (eqb m k)) (dpc-word w s holder active a h d f 0 (d .address) refl ∙ found addressOf (s .dpcs .table) h d f .1)
 
       go : (q : List ℕ) → s .dpcs .queue ≡ q → asked (firstOf w (queueChain w)) ≡ unless22 (isHead k q && isQueued (phaseAt (s .dpcs .table) k))
@@ -120,7 +121,7 @@ module _ (w : List ℕ) (s : State) (a : Agree w s) (v : Valid s) (k : ℕ) wher
         ∙ ap (λ (y : Dpc). workOf (y .phase)) (dpc-whole w s holder active a k d e) ∙ ap workOf q)
 
     started-words : words.headStarted w (numberOf w k) k
-        ≡ set (raised (set (unlinked w (queueFrom (dpcsFrom (s .limits))) 0 (numberIn (s .dpcs .table) k)) (dpcsFrom (s .limits) + 32 * below addressOf k (s .dpcs .table) + 1) 2) 16) 25 k
+        ≡ set (raised (set (unlinked w (queueFrom (dpcsFrom (s .limits))) 0 (numberIn (s .dpcs .table) k)) (dpcsFrom (s .limits) + 32 * below addressOf k (s .dpcs .table) + at.phase) 2) 16) 25 k
     unfolding words.headStarted
     started-words =
         ap (λ (p : ℕ). from p (numberOf w k) (queueChain w)) (place-numbered w s holder active a k d e)
@@ -128,7 +129,7 @@ module _ (w : List ℕ) (s : State) (a : Agree w s) (v : Valid s) (k : ℕ) wher
         ∙ ap (from (dpcsFrom (s .limits) + 32 * below addressOf k (s .dpcs .table)) (numberIn (s .dpcs .table) k)) (queue-chain-is w s holder active a)
       where
         from : ℕ → ℕ → Chain → List ℕ
-        from p m c = set (raised (set (unlinked w c 0 m) (p + 1) 2) 16) 25 k
+        from p m c = set (raised (set (unlinked w c 0 m) (p + at.phase) 2) 16) 25 k
 
     now-running : present (activeDpc (s .dpcs .table)) ≡ false → Agree (words.headStarted w (numberOf w k) k) (withDpcs s (started (s .dpcs) k x))
     unfolding started
@@ -138,14 +139,14 @@ module _ (w : List ℕ) (s : State) (a : Agree w s) (v : Valid s) (k : ℕ) wher
         (subst (λ (l : List ℕ). Agreeing l (withDpcs s (started (s .dpcs) k x)) holder k) (sym started-words)
         (sim-active (raised w₂ 16) (withDpcs s (started (s .dpcs) k x)) holder active
         (subst (λ (l : List ℕ). Agreeing l (withDpcs s (started (s .dpcs) k x)) holder active)
-        (sym (raised-is w₂ 16 (s .dpcs .counters .started) (b₂ .numbers 16 (s .dpcs .counters .started) refl) (few-started (s .limits .dpcs) (s .dpcs) (v .queueing))))
+        (sym (raised-is w₂ 16 (s .dpcs .counters .started) (b₂ .numbers at.started (s .dpcs .counters .started) refl) (few-started (s .limits .dpcs) (s .dpcs) (v .queueing))))
         (sim-started w₂ s₂ holder active b₂)) k))
       where
         w₁ : List ℕ
         w₁ = unlinked w (queueFrom (dpcsFrom (s .limits))) 0 (numberIn (s .dpcs .table) k)
 
         w₂ : List ℕ
-        w₂ = set w₁ (dpcsFrom (s .limits) + 32 * below addressOf k (s .dpcs .table) + 1) 2
+        w₂ = set w₁ (dpcsFrom (s .limits) + 32 * below addressOf k (s .dpcs .table) + at.phase) 2
 
         s₁ : State
         s₁ = withRecords s (s .dpcs .table) (rest (s .dpcs .queue))
@@ -157,7 +158,7 @@ module _ (w : List ℕ) (s : State) (a : Agree w s) (v : Valid s) (k : ℕ) wher
         b₁ = sim-head w s holder active a k (rest (s .dpcs .queue)) h
 
         b₂ : Agreeing w₂ s₂ holder active
-        b₂ = subst (λ (p : ℕ). Agreeing (set w₁ (p + 1) 2) s₂ holder active) (dpc-place w₁ s₁ holder active b₁ k d e) (sim-phase w₁ s₁ holder active b₁ k d e (Running x) (inl (sym (ap workOf q))))
+        b₂ = subst (λ (p : ℕ). Agreeing (set w₁ (p + at.phase) 2) s₂ holder active) (dpc-place w₁ s₁ holder active b₁ k d e) (sim-phase w₁ s₁ holder active b₁ k d e (Running x) (inl (sym (ap workOf q))))
 
     starts : present (activeDpc (s .dpcs .table)) ≡ false
         → Starts (words.startOutcome (start.Work (record-words.workAt w (placeAt w (firstOf w (queueChain w))))) (words.headStarted w (firstOf w (queueChain w)) k)) (gives (WorkIs x) (withDpcs s (started (s .dpcs) k x)))

@@ -10,6 +10,7 @@ use native.Mathlib.Decide.{ℕ-discrete}
 use borrow.Author.Tests.{eqb-true, eqb-false, leb-true, ltb-false, ne-eqb, eq-eqb}
 use lib.ListN.{getD, length}
 use lib.Dec.{eqb, leb, ltb}
+use Rattle.words.specs.Layout as at
 use Rattle.objects.specs.Objects.{dpcFound}
 use Rattle.images.specs.declared.Dpc.{Dpc}
 use Rattle.images.specs.declared.DpcPhase.{DpcPhase}
@@ -60,30 +61,30 @@ two-active (Returning x) h = refl
 
 pub record StartsForm (w : List ℕ) : Type 0 where
   pub one : activeCount w ≤ 1
-  pub started : getD w 16 0 ≡ getD w 18 0 + activeCount w
-  pub idle : getD w 25 0 ≡ 0 → activeCount w ≡ 0
-  pub busy : (getD w 25 0 ≡ 0 → ⊥) → (dpcFound w (getD w 25 0) ≡ 0 → ⊥) × (2 ≤ getD w (dpcFound w (getD w 25 0) + 1) 0)
+  pub started : getD w at.started 0 ≡ getD w at.restored 0 + activeCount w
+  pub idle : getD w at.active 0 ≡ 0 → activeCount w ≡ 0
+  pub busy : (getD w at.active 0 ≡ 0 → ⊥) → (dpcFound w (getD w at.active 0) ≡ 0 → ⊥) × (2 ≤ getD w (dpcFound w (getD w at.active 0) + at.phase) 0)
 
 pub starts-form : (w : List ℕ) → startsPass w ≡ true → StartsForm w
 unfolding startsPass activeNamed
 starts-form w e =
-    let a = not-first (ltb 1 (activeCount w)) (cond (eqb (getD w 16 0) (getD w 18 0 + activeCount w)) (activeNamed w) false) e in
-    let b = both (eqb (getD w 16 0) (getD w 18 0 + activeCount w)) (activeNamed w) (a .1) in
+    let a = not-first (ltb 1 (activeCount w)) (cond (eqb (getD w at.started 0) (getD w at.restored 0 + activeCount w)) (activeNamed w) false) e in
+    let b = both (eqb (getD w at.started 0) (getD w at.restored 0 + activeCount w)) (activeNamed w) (a .1) in
     record {
       one = ltb-false 1 (activeCount w) (a .0);
-      started = eqb-true (getD w 16 0) (getD w 18 0 + activeCount w) (b .0);
-      idle = λ q. eqb-true (activeCount w) 0 (ap (λ (t : Bool). cond t (eqb (activeCount w) 0) (rest w)) (sym (eq-eqb (getD w 25 0) 0 q)) ∙ b .1);
+      started = eqb-true (getD w at.started 0) (getD w at.restored 0 + activeCount w) (b .0);
+      idle = λ q. eqb-true (activeCount w) 0 (ap (λ (t : Bool). cond t (eqb (activeCount w) 0) (rest w)) (sym (eq-eqb (getD w at.active 0) 0 q)) ∙ b .1);
       busy = λ q.
-          let c = ap (λ (t : Bool). cond t (eqb (activeCount w) 0) (rest w)) (sym (ne-eqb (getD w 25 0) 0 q)) ∙ b .1 in
-          let d = not-first (eqb (dpcFound w (getD w 25 0)) 0) (leb 2 (getD w (dpcFound w (getD w 25 0) + 1) 0)) c in
-          (eqb-false (dpcFound w (getD w 25 0)) 0 (d .0), leb-true 2 (getD w (dpcFound w (getD w 25 0) + 1) 0) (d .1));
+          let c = ap (λ (t : Bool). cond t (eqb (activeCount w) 0) (rest w)) (sym (ne-eqb (getD w at.active 0) 0 q)) ∙ b .1 in
+          let d = not-first (eqb (dpcFound w (getD w at.active 0)) 0) (leb 2 (getD w (dpcFound w (getD w at.active 0) + at.phase) 0)) c in
+          (eqb-false (dpcFound w (getD w at.active 0)) 0 (d .0), leb-true 2 (getD w (dpcFound w (getD w at.active 0) + at.phase) 0) (d .1));
     }
   where
     rest : List ℕ → Bool
-    rest v = cond (eqb (dpcFound v (getD v 25 0)) 0) false (leb 2 (getD v (dpcFound v (getD v 25 0) + 1) 0))
+    rest v = cond (eqb (dpcFound v (getD v at.active 0)) 0) false (leb 2 (getD v (dpcFound v (getD v at.active 0) + at.phase) 0))
 
 module _ (w : List ℕ) (words : Words w) (p : Parts w) where
-  a₀ : Agreeing w (decoded w) (told w) (getD w 25 0)
+  a₀ : Agreeing w (decoded w) (told w) (getD w at.active 0)
   a₀ = agreeing-told w words p
 
   abbrev table : List Dpc
@@ -96,27 +97,27 @@ module _ (w : List ℕ) (words : Words w) (p : Parts w) where
       go : (o : Option Dpc) → dpcAt table a ≡ o → (d : Dpc) × (dpcAt table a ≡ some d)
       go none e =
           absurd (h (dpc-missing addressOf w (dpcsFrom (limitsOf w)) table (omega (arith, p .header .limits .threads, p .header .limits .objects)) (omega arith)
-          (dpcs-base-is w (decoded w) (told w) (getD w 25 0) a₀) (a₀ .numbers 5 (length table) refl) (dpcs-few w (decoded w) (told w) (getD w 25 0) a₀) (a₀ .shape .dpcs .rising)
-          (dpc-keys w (decoded w) (told w) (getD w 25 0) a₀) a e))
+          (dpcs-base-is w (decoded w) (told w) (getD w at.active 0) a₀) (a₀ .numbers at.dpcs (length table) refl) (dpcs-few w (decoded w) (told w) (getD w at.active 0) a₀) (a₀ .shape .dpcs .rising)
+          (dpc-keys w (decoded w) (told w) (getD w at.active 0) a₀) a e))
       go (some d) e = (d, e)
 
   -- the DPC that the active word names
-  named : (getD w 25 0 ≡ 0 → ⊥) → (d : Dpc) × (Mem d table) × (d .address ≡ getD w 25 0) × (isActive (d .phase) ≡ true)
+  named : (getD w at.active 0 ≡ 0 → ⊥) → (d : Dpc) × (Mem d table) × (d .address ≡ getD w at.active 0) × (isActive (d .phase) ≡ true)
   named h =
       let b = starts-form w (p .starts) .busy h in
-      let f = found-there (getD w 25 0) (b .0) in
-      let m = found addressOf table (getD w 25 0) (f .0) (f .1) in
-      let place = dpc-place w (decoded w) (told w) (getD w 25 0) a₀ (getD w 25 0) (f .0) (f .1) in
-      let word = ap (λ (j : ℕ). getD w (j + 1) 0) place ∙ dpc-row w (decoded w) (told w) (getD w 25 0) a₀ (getD w 25 0) (f .0) (f .1) 1 (phaseNumber (f .0 .phase)) refl in
+      let f = found-there (getD w at.active 0) (b .0) in
+      let m = found addressOf table (getD w at.active 0) (f .0) (f .1) in
+      let place = dpc-place w (decoded w) (told w) (getD w at.active 0) a₀ (getD w at.active 0) (f .0) (f .1) in
+      let word = ap (λ (j : ℕ). getD w (j + at.phase) 0) place ∙ dpc-row w (decoded w) (told w) (getD w at.active 0) a₀ (getD w at.active 0) (f .0) (f .1) 1 (phaseNumber (f .0 .phase)) refl in
       (f .0, m .0, m .1, two-active (f .0 .phase) (omega (arith, word, b .1)))
 
   count : activeCount w ≡ countOf (λ (d : Dpc). isActive (d .phase)) table
-  count = active-count w (decoded w) (told w) (getD w 25 0) a₀
+  count = active-count w (decoded w) (told w) (getD w at.active 0) a₀
 
-  pub active-told : getD w 25 0 ≡ activeAddress table
-  active-told = go (activeDpc table) refl (ℕ-discrete (getD w 25 0) 0)
+  pub active-told : getD w at.active 0 ≡ activeAddress table
+  active-told = go (activeDpc table) refl (ℕ-discrete (getD w at.active 0) 0)
     where
-      go : (o : Option Dpc) → activeDpc table ≡ o → Dec (getD w 25 0 ≡ 0) → getD w 25 0 ≡ activeAddress table
+      go : (o : Option Dpc) → activeDpc table ≡ o → Dec (getD w at.active 0 ≡ 0) → getD w at.active 0 ≡ activeAddress table
       go none e (yes q) = q ∙ ap (λ (o : Option Dpc). given o 0 (λ (d : Dpc). d .address)) (sym e)
       go none e (no q) =
           let n = named q in

@@ -9,6 +9,7 @@ use native.Mathlib.Omega.{arith}
 use borrow.Author.Tests.{eqb-true, ltb-false}
 use lib.ListN.{getD, length}
 use lib.Dec.{ltb}
+use Rattle.words.specs.Layout as at
 use Rattle.words.specs.Layout.{entryAt}
 use Rattle.chains.specs.Chain.{firstOf}
 use Rattle.dpcs.specs.Record.{dpcCount, placeAt, queueChain}
@@ -47,9 +48,9 @@ phase-tally w base phase (suc m) i =
 
 pub record QueueIs (w : List ℕ) : Type 0 where
   pub holds : Holds w (queueFrom (dpcsFrom (limitsOf w))) (numbersOf w)
-  pub standing : Standing (getD w 5 0) (numbersOf w)
+  pub standing : Standing (getD w at.dpcs 0) (numbersOf w)
   pub long : length (numbersOf w) ≡ phaseCount w 1
-  pub exact : (i : ℕ) → i < getD w 5 0 → hasPhase w (dpcsFrom (limitsOf w) + 32 * i) 1 ≡ member (suc i) (numbersOf w)
+  pub exact : (i : ℕ) → i < getD w at.dpcs 0 → hasPhase w (dpcsFrom (limitsOf w) + 32 * i) 1 ≡ member (suc i) (numbersOf w)
 
 pub queue-is : (w : List ℕ) → Counted w → queueStandsOnce w ≡ true → QueueIs w
 unfolding queueStandsOnce queueSize queueChain queuedAt phaseCount
@@ -64,7 +65,7 @@ queue-is w c e =
     base : ℕ
     base = dpcsFrom (limitsOf w)
 
-    few : getD w 5 0 ≤ 4096
+    few : getD w at.dpcs 0 ≤ 4096
     few = omega (arith, c .dpcs-fit, c .limits .dpcs)
 
     size : queueIn 4097 w (queueFrom base) 0 (firstOf w (queueFrom base)) 1 ≡ phaseCount w 1 + 1
@@ -75,26 +76,26 @@ queue-is w c e =
     walk : Walked w (queueFrom base) (queuedAt w) 0 (numbersOf w) 1 (queueIn 4097 w (queueFrom base) 0 (firstOf w (queueFrom base)) 1)
     walk = queue-walk w (queueFrom base) 4097 (λ q. omega (arith, q, size))
 
-    of : (y : ℕ) → Mem y (numbersOf w) → (1 ≤ y) × ((y ≤ getD w 5 0) × (hasPhase w (placeAt w y) 1 ≡ true))
+    of : (y : ℕ) → Mem y (numbersOf w) → (1 ≤ y) × ((y ≤ getD w at.dpcs 0) × (hasPhase w (placeAt w y) 1 ≡ true))
     of y m =
         let h = walk .each-passes y m in
         let k = not-first (ltb (dpcCount w) y) (hasPhase w (placeAt w y) 1) (h .1) in
         (h .0, (omega (arith, ltb-false (dpcCount w) y (k .0), dpc-count w c), k .1))
 
-    standing : Standing (getD w 5 0) (numbersOf w)
+    standing : Standing (getD w at.dpcs 0) (numbersOf w)
     standing = record {
       within = λ y m. (of y m .0, of y m .1 .0);
       once = walked-once w (queueFrom base) (queuedAt w) 0 1 (queueIn 4097 w (queueFrom base) 0 (firstOf w (queueFrom base)) 1) (numbersOf w) walk;
     }
 
     -- DPC `suc i` has record `i`
-    place : (i : ℕ) → i < getD w 5 0 → placeAt w (suc i) ≡ base + 32 * i
+    place : (i : ℕ) → i < getD w at.dpcs 0 → placeAt w (suc i) ≡ base + 32 * i
     place i h = ap (placeAt w) (let z : suc i ≡ i + 1 = omega arith in z) ∙ place-of-number w base (low w c) (dpcs-base w c) i (omega (arith, few))
 
-    counted : tally (λ y. hasPhase w (entryAt base (y - 1)) 1) (getD w 5 0) 1 ≡ length (numbersOf w)
+    counted : tally (λ y. hasPhase w (entryAt base (y - 1)) 1) (getD w at.dpcs 0) 1 ≡ length (numbersOf w)
     counted =
-        (let z = sym (phase-tally w base 1 (getD w 5 0) 0) in z)
-        ∙ ap (λ (b : ℕ). phaseCountIn (getD w 5 0) w b 0 1) (sym (dpcs-base w c))
+        (let z = sym (phase-tally w base 1 (getD w at.dpcs 0) 0) in z)
+        ∙ ap (λ (b : ℕ). phaseCountIn (getD w at.dpcs 0) w b 0 1) (sym (dpcs-base w c))
         ∙ ap (λ (m : ℕ). phaseCountIn m w (dpcsBase w) 0 1) (sym (dpc-count w c))
         ∙ (let z : phaseCount w 1 ≡ length (numbersOf w) = omega (arith, size, walk .counts) in z)
 
@@ -106,21 +107,21 @@ queue-is w c e =
         ∙ ap (λ (p : ℕ). hasPhase w p 1) (entry-place base i (low w c) (omega (arith, few, of (suc i) m .1 .0)) ∙ sym (place i (omega (arith, of (suc i) m .1 .0))))
         ∙ of (suc i) m .1 .1
 
-    exact : (i : ℕ) → i < getD w 5 0 → hasPhase w (base + 32 * i) 1 ≡ member (suc i) (numbersOf w)
+    exact : (i : ℕ) → i < getD w at.dpcs 0 → hasPhase w (base + 32 * i) 1 ≡ member (suc i) (numbersOf w)
     exact i h =
         let z : i ≡ suc i - 1 = omega arith in
         ap (λ (p : ℕ). hasPhase w p 1) (sym (entry-place base i (low w c) (omega (arith, few))))
         ∙ ap (λ (j : ℕ). hasPhase w (entryAt base j) 1) z
-        ∙ tally-exact (λ y. hasPhase w (entryAt base (y - 1)) 1) (getD w 5 0) 1 (numbersOf w) (standing .once)
+        ∙ tally-exact (λ y. hasPhase w (entryAt base (y - 1)) 1) (getD w at.dpcs 0) 1 (numbersOf w) (standing .once)
         (λ y m. (standing .within y m .0, omega (arith, standing .within y m .1))) member-phase counted (suc i) (omega arith) (omega arith)
 
 -- ---- numbers and addresses
 
 module _ (w : List ℕ) (f : DpcsForm w) (q : QueueIs w) where
-  pub record-at : (i : ℕ) → i < getD w 5 0 → nth (tableOf w) i ≡ some (dpcOf w i)
-  record-at i h = nth-each (dpcOf w) (getD w 5 0) 0 i h ∙ ap (λ (j : ℕ). some (dpcOf w j)) (let z : 0 + i ≡ i = omega arith in z)
+  pub record-at : (i : ℕ) → i < getD w at.dpcs 0 → nth (tableOf w) i ≡ some (dpcOf w i)
+  record-at i h = nth-each (dpcOf w) (getD w at.dpcs 0) 0 i h ∙ ap (λ (j : ℕ). some (dpcOf w j)) (let z : 0 + i ≡ i = omega arith in z)
 
-  pub dpc-found : (i : ℕ) → i < getD w 5 0 → dpcAt (tableOf w) (dpcOf w i .address) ≡ some (dpcOf w i)
+  pub dpc-found : (i : ℕ) → i < getD w at.dpcs 0 → dpcAt (tableOf w) (dpcOf w i .address) ≡ some (dpcOf w i)
   dpc-found i h = find-nth addressOf (tableOf w) (dpcs-rise w f) i (dpcOf w i) (record-at i h)
 
   address-of : (i : ℕ) → addressAt w (suc i) ≡ dpcOf w i .address
@@ -141,14 +142,14 @@ module _ (w : List ℕ) (f : DpcsForm w) (q : QueueIs w) where
   pub work-holds : Holds w (queueFrom (dpcsFrom (limitsOf w))) (numbersIn (tableOf w) (map (addressAt w) (numbersOf w)))
   work-holds = subst (Holds w (queueFrom (dpcsFrom (limitsOf w)))) (sym (back (numbersOf w) (λ y m. m))) (q .holds)
 
-  pub queued-there : (a : ℕ) → Mem a (map (addressAt w) (numbersOf w)) → (i : ℕ) × (i < getD w 5 0) × (Mem (suc i) (numbersOf w)) × (a ≡ dpcOf w i .address)
+  pub queued-there : (a : ℕ) → Mem a (map (addressAt w) (numbersOf w)) → (i : ℕ) × (i < getD w at.dpcs 0) × (Mem (suc i) (numbersOf w)) × (a ≡ dpcOf w i .address)
   queued-there a m = go (mem-map (addressAt w) a (numbersOf w) m)
     where
-      by-number : (y : ℕ) → Mem y (numbersOf w) → a ≡ addressAt w y → (i : ℕ) × (i < getD w 5 0) × (Mem (suc i) (numbersOf w)) × (a ≡ dpcOf w i .address)
+      by-number : (y : ℕ) → Mem y (numbersOf w) → a ≡ addressAt w y → (i : ℕ) × (i < getD w at.dpcs 0) × (Mem (suc i) (numbersOf w)) × (a ≡ dpcOf w i .address)
       by-number zero k e = absurd (omega (arith, q .standing .within zero k .0))
       by-number (suc i) k e = (i, omega (arith, q .standing .within (suc i) k .1), k, e ∙ address-of i)
 
-      go : ((y : ℕ) × (Mem y (numbersOf w)) × (a ≡ addressAt w y)) → (i : ℕ) × (i < getD w 5 0) × (Mem (suc i) (numbersOf w)) × (a ≡ dpcOf w i .address)
+      go : ((y : ℕ) × (Mem y (numbersOf w)) × (a ≡ addressAt w y)) → (i : ℕ) × (i < getD w at.dpcs 0) × (Mem (suc i) (numbersOf w)) × (a ≡ dpcOf w i .address)
       go (y, k, e) = by-number y k e
 
   pub there-queued : (i : ℕ) → Mem (suc i) (numbersOf w) → Mem (dpcOf w i .address) (map (addressAt w) (numbersOf w))

@@ -8,6 +8,7 @@ use native.Mathlib.Omega.{arith}
 use borrow.Author.Tests.{ne-eqb}
 use lib.ListN.{getD, length}
 use lib.Dec.{eqb}
+use Rattle.words.specs.Layout as at
 use Rattle.model.specs.State.{Thread, Named, satisfied, timeout}
 use Rattle.model.specs.Threads.{threadAt, noOne}
 use Rattle.model.proofs.TableLaws.{none-some, some-same}
@@ -22,13 +23,13 @@ use Rattle.agreement_form.proofs.ThreadForm.{ThreadForm}
 module _ (w : List ℕ) where
   -- ---- the list of threads
 
-  pub thread-at : (i : ℕ) → 1 ≤ i → i ≤ getD w 3 0 → threadAt (threadsOf w) i ≡ threadBy w i
+  pub thread-at : (i : ℕ) → 1 ≤ i → i ≤ getD w at.threads 0 → threadAt (threadsOf w) i ≡ threadBy w i
   thread-at zero one le = absurd (omega arith)
-  thread-at (suc k) one le = read-each (threadBy w) (getD w 3 0) 1 k noOne (omega arith) ∙ ap (threadBy w) (let z : 1 + k ≡ suc k = omega arith in z)
+  thread-at (suc k) one le = read-each (threadBy w) (getD w at.threads 0) 1 k noOne (omega arith) ∙ ap (threadBy w) (let z : 1 + k ≡ suc k = omega arith in z)
 
-  pub thread-past : (i : ℕ) → getD w 3 0 < i → threadAt (threadsOf w) i ≡ noOne
+  pub thread-past : (i : ℕ) → getD w at.threads 0 < i → threadAt (threadsOf w) i ≡ noOne
   thread-past zero h = refl
-  thread-past (suc k) h = read-past (threadBy w) (getD w 3 0) 1 k noOne (omega arith)
+  thread-past (suc k) h = read-past (threadBy w) (getD w at.threads 0) 1 k noOne (omega arith)
 
   -- ---- numbers that tell a record
 
@@ -40,7 +41,7 @@ module _ (w : List ℕ) where
   status-number i (suc (suc (suc (suc zero)))) p q = refl
   status-number i (suc (suc (suc (suc (suc n))))) p q = absurd (omega arith)
 
-  exit-status : (i n : ℕ) → 1 ≤ n → n ≤ 4 → ((n ≡ 4 → ⊥) → getD w (101 + 160 * i) 0 ≡ 0) → getD w (101 + 160 * i) 0 ≡ exitStatus (statusBy w i n)
+  exit-status : (i n : ℕ) → 1 ≤ n → n ≤ 4 → ((n ≡ 4 → ⊥) → getD w (at.threadWord at.status i) 0 ≡ 0) → getD w (at.threadWord at.status i) 0 ≡ exitStatus (statusBy w i n)
   exit-status i zero p q h = absurd (omega arith)
   exit-status i (suc zero) p q h = h (λ e. omega arith)
   exit-status i (suc (suc zero)) p q h = h (λ e. omega arith)
@@ -70,13 +71,13 @@ module _ (w : List ℕ) where
   at-word : (i j k : ℕ) → i ≡ j + k → getD w (j + k) 0 ≡ getD w i 0
   at-word i j k e = ap (λ (p : ℕ). getD w p 0) (sym e)
 
-  thread-row : (i : ℕ) → ThreadForm w i → Row w (96 + 160 * i) (threadRow (threadBy w i))
-  thread-row i t = row-from w (96 + 160 * i) (threadRow (threadBy w i))
-      (says (at-word (96 + 160 * i) (96 + 160 * i) 0 (omega arith))
-      (says (at-word (97 + 160 * i) (96 + 160 * i) 1 (omega arith) ∙ sym (status-number i (getD w (97 + 160 * i) 0) (t .one-state) (t .small-state)))
+  thread-row : (i : ℕ) → ThreadForm w i → Row w (at.threadFrom i) (threadRow (threadBy w i))
+  thread-row i t = row-from w (at.threadFrom i) (threadRow (threadBy w i))
+      (says (at-word (at.threadFrom i) (at.threadFrom i) 0 (omega arith))
+      (says (at-word (at.threadWord at.state i) (at.threadFrom i) 1 (omega arith) ∙ sym (status-number i (getD w (at.threadWord at.state i) 0) (t .one-state) (t .small-state)))
       (skips (skips
-      (says (at-word (100 + 160 * i) (96 + 160 * i) 4 (omega arith) ∙ sym (result-number (getD w (100 + 160 * i) 0)))
-      (says (at-word (101 + 160 * i) (96 + 160 * i) 5 (omega arith) ∙ exit-status i (getD w (97 + 160 * i) 0) (t .one-state) (t .small-state) (t .no-exit)) ends))))))
+      (says (at-word (at.threadWord at.result i) (at.threadFrom i) 4 (omega arith) ∙ sym (result-number (getD w (at.threadWord at.result i) 0)))
+      (says (at-word (at.threadWord at.status i) (at.threadFrom i) 5 (omega arith) ∙ exit-status i (getD w (at.threadWord at.state i) 0) (t .one-state) (t .small-state) (t .no-exit)) ends))))))
 
   places-from : (place m j : ℕ) → From w place (2 * j) (placesRow (each (namedAt w place) m j))
   places-from place zero j = ends
@@ -87,13 +88,13 @@ module _ (w : List ℕ) where
   wait-is : (i : ℕ) → ThreadForm w i → WaitIs w i (waitAt w i)
   wait-is i t =
       record {
-        terms = row-from w (102 + 160 * i) (termsRow (waitAt w i))
-            (says (at-word (102 + 160 * i) (102 + 160 * i) 0 (omega arith) ∙ flag-number (getD w (102 + 160 * i) 0) (t .kept .all))
-            (says (at-word (103 + 160 * i) (102 + 160 * i) 1 (omega arith) ∙ timed-number (getD w (103 + 160 * i) 0) (getD w (104 + 160 * i) 0) (t .kept .timed))
-            (may (deadlineAt w i) (λ n e. at-word (104 + 160 * i) (102 + 160 * i) 2 (omega arith) ∙ deadline-word (eqb (getD w (103 + 160 * i) 0) 0) (getD w (104 + 160 * i) 0) n e)
-            (says (at-word (105 + 160 * i) (102 + 160 * i) 3 (omega arith))
-            (says (at-word (106 + 160 * i) (102 + 160 * i) 4 (omega arith) ∙ sym (length-each (namedAt w (128 + 160 * i)) (getD w (106 + 160 * i) 0) 0)) ends)))));
-        places = row-from w (128 + 160 * i) (placesRow (waitAt w i .objects)) (places-from (128 + 160 * i) (getD w (106 + 160 * i) 0) 0);
+        terms = row-from w (at.threadWord at.waitAll i) (termsRow (waitAt w i))
+            (says (at-word (at.threadWord at.waitAll i) (at.threadWord at.waitAll i) 0 (omega arith) ∙ flag-number (getD w (at.threadWord at.waitAll i) 0) (t .kept .all))
+            (says (at-word (at.threadWord at.hasDeadline i) (at.threadWord at.waitAll i) 1 (omega arith) ∙ timed-number (getD w (at.threadWord at.hasDeadline i) 0) (getD w (at.threadWord at.deadline i) 0) (t .kept .timed))
+            (may (deadlineAt w i) (λ n e. at-word (at.threadWord at.deadline i) (at.threadWord at.waitAll i) 2 (omega arith) ∙ deadline-word (eqb (getD w (at.threadWord at.hasDeadline i) 0) 0) (getD w (at.threadWord at.deadline i) 0) n e)
+            (says (at-word (at.threadWord at.waitSequence i) (at.threadWord at.waitAll i) 3 (omega arith))
+            (says (at-word (at.threadWord at.waitCount i) (at.threadWord at.waitAll i) 4 (omega arith) ∙ sym (length-each (namedAt w (at.threadWord at.waitPlaces i)) (getD w (at.threadWord at.waitCount i) 0) 0)) ends)))));
+        places = row-from w (at.threadWord at.waitPlaces i) (placesRow (waitAt w i .objects)) (places-from (at.threadWord at.waitPlaces i) (getD w (at.threadWord at.waitCount i) 0) 0);
       }
 
   wait-of : (i n : ℕ) → 1 ≤ n → n ≤ 4 → ThreadForm w i → WaitOf w i (statusBy w i n)
@@ -109,9 +110,9 @@ module _ (w : List ℕ) where
   pub wait-fits : (i : ℕ) → ThreadForm w i → WaitFits (waitAt w i)
   wait-fits i t =
       record {
-        few = omega (arith, length-each (namedAt w (128 + 160 * i)) (getD w (106 + 160 * i) 0) 0, t .kept .count);
+        few = omega (arith, length-each (namedAt w (at.threadWord at.waitPlaces i)) (getD w (at.threadWord at.waitCount i) 0) 0, t .kept .count);
         kinds = λ n m.
-            let h = mem-each (namedAt w (128 + 160 * i)) (getD w (106 + 160 * i) 0) 0 n m in
+            let h = mem-each (namedAt w (at.threadWord at.waitPlaces i)) (getD w (at.threadWord at.waitCount i) 0) 0 n m in
             subst (λ (x : Named). x .kind ≤ 3) (sym (h .3)) (t .kept .kinds (h .0) (omega (arith, h .2)));
       }
 
@@ -123,28 +124,28 @@ module _ (w : List ℕ) where
   status-fits i (suc (suc (suc (suc zero)))) p q t = tt
   status-fits i (suc (suc (suc (suc (suc n))))) p q t = absurd (omega arith)
 
-  module _ (forms : (i : ℕ) → 1 ≤ i → i ≤ getD w 3 0 → ThreadForm w i) where
-    size : length (threadsOf w) ≡ getD w 3 0
-    size = length-each (threadBy w) (getD w 3 0) 1
+  module _ (forms : (i : ℕ) → 1 ≤ i → i ≤ getD w at.threads 0 → ThreadForm w i) where
+    size : length (threadsOf w) ≡ getD w at.threads 0
+    size = length-each (threadBy w) (getD w at.threads 0) 1
 
     pub threads-hold : Threads w (threadsOf w)
     threads-hold i one le =
-        let few : i ≤ getD w 3 0 = omega (arith, size) in
-        subst (λ (t : Thread). Row w (96 + 160 * i) (threadRow t)) (sym (thread-at i one few)) (thread-row i (forms i one few))
+        let few : i ≤ getD w at.threads 0 = omega (arith, size) in
+        subst (λ (t : Thread). Row w (at.threadFrom i) (threadRow t)) (sym (thread-at i one few)) (thread-row i (forms i one few))
 
     pub waits-hold : Waits w (threadsOf w)
     waits-hold =
         record {
           kept = λ i one le. forms i one (omega (arith, size)) .kept;
           current = λ i one le.
-              let few : i ≤ getD w 3 0 = omega (arith, size) in
+              let few : i ≤ getD w at.threads 0 = omega (arith, size) in
               let t = forms i one few in
-              subst (λ (x : Thread). WaitOf w i (x .status)) (sym (thread-at i one few)) (wait-of i (getD w (97 + 160 * i) 0) (t .one-state) (t .small-state) t);
+              subst (λ (x : Thread). WaitOf w i (x .status)) (sym (thread-at i one few)) (wait-of i (getD w (at.threadWord at.state i) 0) (t .one-state) (t .small-state) t);
         }
 
     pub threads-fit : ThreadsFit (threadsOf w)
     threads-fit i one le =
-        let few : i ≤ getD w 3 0 = omega (arith, size) in
+        let few : i ≤ getD w at.threads 0 = omega (arith, size) in
         let t = forms i one few in
         subst ThreadFits (sym (thread-at i one few))
-        (record { one = t .one-priority; small = t .small-priority; wait = status-fits i (getD w (97 + 160 * i) 0) (t .one-state) (t .small-state) t })
+        (record { one = t .one-priority; small = t .small-priority; wait = status-fits i (getD w (at.threadWord at.state i) 0) (t .one-state) (t .small-state) t })

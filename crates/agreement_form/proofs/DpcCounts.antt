@@ -8,6 +8,7 @@ use native.Mathlib.Omega.{arith}
 use borrow.Author.Tests.{eq-eqb, ne-eqb, le-leb, le-ltb}
 use lib.ListN.{getD, length}
 use lib.Dec.{eqb, leb}
+use Rattle.words.specs.Layout as at
 use Rattle.chains.specs.declared.Chain.{Chain}
 use Rattle.chains.specs.Chain as chain
 use Rattle.objects.specs.Objects.{dpcFound}
@@ -105,17 +106,17 @@ module _ (w : List ℕ) (s : State) (a : Agree w s) (v : Form s) where
   pub sum-holds : sumHolds w ≡ true
   unfolding sumHolds
   sum-holds =
-      eq-eqb (getD w 13 0) (getD w 15 0 + (getD w 18 0 + (phaseCount w 1 + activeCount w)))
-      (omega (arith, a .numbers 13 (s .dpcs .counters .accepted) refl, a .numbers 15 (s .dpcs .counters .removed) refl, a .numbers 18 (s .dpcs .counters .restored) refl, queued-count, active-count w s holder active a, v .queueing .sum))
+      eq-eqb (getD w at.accepted 0) (getD w at.removed 0 + (getD w at.restored 0 + (phaseCount w 1 + activeCount w)))
+      (omega (arith, a .numbers at.accepted (s .dpcs .counters .accepted) refl, a .numbers at.removed (s .dpcs .counters .removed) refl, a .numbers at.restored (s .dpcs .counters .restored) refl, queued-count, active-count w s holder active a, v .queueing .sum))
 
   active-named : activeNamed w ≡ true
   unfolding activeNamed
   active-named =
-      ap (λ (n : ℕ). cond (eqb n 0) (eqb (activeCount w) 0) (cond (eqb (dpcFound w n) 0) false (leb 2 (getD w (dpcFound w n + 1) 0)))) (a .numbers 25 (activeAddress table) refl)
+      ap (λ (n : ℕ). cond (eqb n 0) (eqb (activeCount w) 0) (cond (eqb (dpcFound w n) 0) false (leb 2 (getD w (dpcFound w n + at.phase) 0)))) (a .numbers at.active (activeAddress table) refl)
       ∙ go (activeDpc table) refl
     where
       test : ℕ → Bool
-      test n = cond (eqb n 0) (eqb (activeCount w) 0) (cond (eqb (dpcFound w n) 0) false (leb 2 (getD w (dpcFound w n + 1) 0)))
+      test n = cond (eqb n 0) (eqb (activeCount w) 0) (cond (eqb (dpcFound w n) 0) false (leb 2 (getD w (dpcFound w n + at.phase) 0)))
 
       go : (o : Option Dpc) → activeDpc table ≡ o → test (activeAddress table) ≡ true
       go none e =
@@ -139,13 +140,13 @@ module _ (w : List ℕ) (s : State) (a : Agree w s) (v : Form s) where
   starts-pass =
       simp (
         le-ltb 1 (activeCount w) (omega (arith, active-count w s holder active a, v .queueing .one-active)),
-        eq-eqb (getD w 16 0) (getD w 18 0 + activeCount w)
-            (omega (arith, a .numbers 16 (s .dpcs .counters .started) refl, a .numbers 18 (s .dpcs .counters .restored) refl, active-count w s holder active a, v .queueing .starts)),
+        eq-eqb (getD w at.started 0) (getD w at.restored 0 + activeCount w)
+            (omega (arith, a .numbers at.started (s .dpcs .counters .started) refl, a .numbers at.restored (s .dpcs .counters .restored) refl, active-count w s holder active a, v .queueing .starts)),
       )
       active-named
 
   pub returns-pass : returnsPass w ≡ true
   unfolding returnsPass
   returns-pass =
-      eq-eqb (getD w 17 0) (getD w 18 0 + phaseCount w 3)
-      (omega (arith, a .numbers 17 (s .dpcs .counters .returned) refl, a .numbers 18 (s .dpcs .counters .restored) refl, returning-count w s holder active a, v .queueing .returns))
+      eq-eqb (getD w at.returned 0) (getD w at.restored 0 + phaseCount w 3)
+      (omega (arith, a .numbers at.returned (s .dpcs .counters .returned) refl, a .numbers at.restored (s .dpcs .counters .restored) refl, returning-count w s holder active a, v .queueing .returns))

@@ -8,6 +8,7 @@ use native.Mathlib.Decide.{ℕ-discrete}
 use borrow.Author.Tests.{eq-eqb, ne-eqb, eqb-true, eqb-false, leb-true, ltb-false}
 use lib.ListN.{getD}
 use lib.Dec.{eqb, leb, ltb}
+use Rattle.words.specs.Layout as at
 use Rattle.words.specs.Layout.{entryAt}
 use Rattle.tables.specs.Table.{keyAt}
 use Rattle.images.specs.Place.{architectureOf, dpcSize}
@@ -26,16 +27,16 @@ use Rattle.agreement_form.proofs.TimerForm.{PlacedAt, located-form, ris
 
 -- words 15 to 20 of a record
 abbrev pub NoTimer : List ℕ → ℕ → Type 0
-NoTimer w place = (getD w (place + 15) 0 ≡ 0) × (getD w (place + 16) 0 ≡ 0) × (getD w (place + 17) 0 ≡ 0) × (getD w (place + 18) 0 ≡ 0) × (getD w (place + 19) 0 ≡ 0) × (getD w (place + 20) 0 ≡ 0)
+NoTimer w place = (getD w (place + at.originTimer) 0 ≡ 0) × (getD w (place + at.originArm) 0 ≡ 0) × (getD w (place + at.originInitialization) 0 ≡ 0) × (getD w (place + at.originDeadline) 0 ≡ 0) × (getD w (place + at.originObserved) 0 ≡ 0) × (getD w (place + at.originPeriodic) 0 ≡ 0)
 
 pub record DpcForm (w : List ℕ) (place : ℕ) : Type 0 where
-  pub phase : getD w (place + 1) 0 ≤ 3
-  pub stands : PlacedAt w place 4 (dpcSize (architectureOf (getD w (place + 4) 0)))
-  pub flags : (getD w (place + 1) 0 ≡ 0 → ⊥) → (getD w (place + 14) 0 ≤ 1) × (getD w (place + 20) 0 ≤ 1)
-  pub caller : (getD w (place + 1) 0 ≡ 0 → ⊥) → getD w (place + 14) 0 ≡ 0 → NoTimer w place
+  pub phase : getD w (place + at.phase) 0 ≤ 3
+  pub stands : PlacedAt w place 4 (dpcSize (architectureOf (getD w (place + at.dpcArchitecture) 0)))
+  pub flags : (getD w (place + at.phase) 0 ≡ 0 → ⊥) → (getD w (place + at.origin) 0 ≤ 1) × (getD w (place + at.originPeriodic) 0 ≤ 1)
+  pub caller : (getD w (place + at.phase) 0 ≡ 0 → ⊥) → getD w (place + at.origin) 0 ≡ 0 → NoTimer w place
   pub no-object : objectFound w (getD w place 0) ≡ 0
-  pub given : (getD w (place + 1) 0 ≡ 0 → ⊥) → (1 ≤ getD w (place + 11) 0) × (getD w (place + 11) 0 ≤ getD w 13 0)
-  pub named : (getD w (place + 3) 0 ≡ 0 → ⊥) → (placeOf w 2 (getD w (place + 3) 0) ≡ 0 → ⊥) × (hasDpc w (placeOf w 2 (getD w (place + 3) 0)) (getD w place 0) ≡ true)
+  pub given : (getD w (place + at.phase) 0 ≡ 0 → ⊥) → (1 ≤ getD w (place + at.workSequence) 0) × (getD w (place + at.workSequence) 0 ≤ getD w at.accepted 0)
+  pub named : (getD w (place + at.namedBy) 0 ≡ 0 → ⊥) → (placeOf w 2 (getD w (place + at.namedBy) 0) ≡ 0 → ⊥) × (hasDpc w (placeOf w 2 (getD w (place + at.namedBy) 0)) (getD w place 0) ≡ true)
 
 module _ (w : List ℕ) (place : ℕ) where
   no-timer-form : namesNoTimer w place ≡ true → NoTimer w place
@@ -47,42 +48,42 @@ module _ (w : List ℕ) (place : ℕ) where
       let c = both (t 17) (cond (t 18) (cond (t 19) (t 20) false) false) (b .1) in
       let d = both (t 18) (cond (t 19) (t 20) false) (c .1) in
       let f = both (t 19) (t 20) (d .1) in (
-        eqb-true (getD w (place + 15) 0) 0 (a .0),
-        eqb-true (getD w (place + 16) 0) 0 (b .0),
-        eqb-true (getD w (place + 17) 0) 0 (c .0),
-        eqb-true (getD w (place + 18) 0) 0 (d .0),
-        eqb-true (getD w (place + 19) 0) 0 (f .0),
-        eqb-true (getD w (place + 20) 0) 0 (f .1),
+        eqb-true (getD w (place + at.originTimer) 0) 0 (a .0),
+        eqb-true (getD w (place + at.originArm) 0) 0 (b .0),
+        eqb-true (getD w (place + at.originInitialization) 0) 0 (c .0),
+        eqb-true (getD w (place + at.originDeadline) 0) 0 (d .0),
+        eqb-true (getD w (place + at.originObserved) 0) 0 (f .0),
+        eqb-true (getD w (place + at.originPeriodic) 0) 0 (f .1),
       )
 
-  origin-form : originPasses w place ≡ true → getD w (place + 14) 0 ≡ 0 → NoTimer w place
+  origin-form : originPasses w place ≡ true → getD w (place + at.origin) 0 ≡ 0 → NoTimer w place
   unfolding originPasses
-  origin-form e q = no-timer-form (if-so (eqb (getD w (place + 14) 0) 0) (namesNoTimer w place) e (eq-eqb (getD w (place + 14) 0) 0 q))
+  origin-form e q = no-timer-form (if-so (eqb (getD w (place + at.origin) 0) 0) (namesNoTimer w place) e (eq-eqb (getD w (place + at.origin) 0) 0 q))
 
-  work-form : workPasses w place ≡ true → (getD w (place + 1) 0 ≡ 0 → ⊥) → (getD w (place + 14) 0 ≤ 1) × (getD w (place + 20) 0 ≤ 1) × (originPasses w place ≡ true)
+  work-form : workPasses w place ≡ true → (getD w (place + at.phase) 0 ≡ 0 → ⊥) → (getD w (place + at.origin) 0 ≤ 1) × (getD w (place + at.originPeriodic) 0 ≤ 1) × (originPasses w place ≡ true)
   unfolding workPasses
   work-form e h =
-      let x = getD w (place + 14) 0 in
-      let y = getD w (place + 20) 0 in
-      let a = if-not (eqb (getD w (place + 1) 0) 0) (cond (ltb 1 x) false (cond (originPasses w place) (leb y 1) false)) e (ne-eqb (getD w (place + 1) 0) 0 h) in
+      let x = getD w (place + at.origin) 0 in
+      let y = getD w (place + at.originPeriodic) 0 in
+      let a = if-not (eqb (getD w (place + at.phase) 0) 0) (cond (ltb 1 x) false (cond (originPasses w place) (leb y 1) false)) e (ne-eqb (getD w (place + at.phase) 0) 0 h) in
       let b = not-first (ltb 1 x) (cond (originPasses w place) (leb y 1) false) a in
       let c = both (originPasses w place) (leb y 1) (b .1) in
       (ltb-false 1 x (b .0), leb-true y 1 (c .1), c .0)
 
-  given-form : sequenceGiven w place ≡ true → (getD w (place + 1) 0 ≡ 0 → ⊥) → (1 ≤ getD w (place + 11) 0) × (getD w (place + 11) 0 ≤ getD w 13 0)
+  given-form : sequenceGiven w place ≡ true → (getD w (place + at.phase) 0 ≡ 0 → ⊥) → (1 ≤ getD w (place + at.workSequence) 0) × (getD w (place + at.workSequence) 0 ≤ getD w at.accepted 0)
   unfolding sequenceGiven
   given-form e h =
-      let x = getD w (place + 11) 0 in
-      let a = if-not (eqb (getD w (place + 1) 0) 0) (cond (eqb x 0) false (leb x (getD w 13 0))) e (ne-eqb (getD w (place + 1) 0) 0 h) in
-      let b = not-first (eqb x 0) (leb x (getD w 13 0)) a in
+      let x = getD w (place + at.workSequence) 0 in
+      let a = if-not (eqb (getD w (place + at.phase) 0) 0) (cond (eqb x 0) false (leb x (getD w at.accepted 0))) e (ne-eqb (getD w (place + at.phase) 0) 0 h) in
+      let b = not-first (eqb x 0) (leb x (getD w at.accepted 0)) a in
       let there = eqb-false x 0 (b .0) in
-      (omega (arith, there), leb-true x (getD w 13 0) (b .1))
+      (omega (arith, there), leb-true x (getD w at.accepted 0) (b .1))
 
-  named-form : namedRightly w place ≡ true → (getD w (place + 3) 0 ≡ 0 → ⊥) → (placeOf w 2 (getD w (place + 3) 0) ≡ 0 → ⊥) × (hasDpc w (placeOf w 2 (getD w (place + 3) 0)) (getD w place 0) ≡ true)
+  named-form : namedRightly w place ≡ true → (getD w (place + at.namedBy) 0 ≡ 0 → ⊥) → (placeOf w 2 (getD w (place + at.namedBy) 0) ≡ 0 → ⊥) × (hasDpc w (placeOf w 2 (getD w (place + at.namedBy) 0)) (getD w place 0) ≡ true)
   unfolding namedRightly
   named-form e h =
-      let p = placeOf w 2 (getD w (place + 3) 0) in
-      let a = if-not (eqb (getD w (place + 3) 0) 0) (cond (eqb p 0) false (hasDpc w p (getD w place 0))) e (ne-eqb (getD w (place + 3) 0) 0 h) in
+      let p = placeOf w 2 (getD w (place + at.namedBy) 0) in
+      let a = if-not (eqb (getD w (place + at.namedBy) 0) 0) (cond (eqb p 0) false (hasDpc w p (getD w place 0))) e (ne-eqb (getD w (place + at.namedBy) 0) 0 h) in
       let b = not-first (eqb p 0) (hasDpc w p (getD w place 0)) a in
       (eqb-false p 0 (b .0), b .1)
 
@@ -104,12 +105,12 @@ module _ (w : List ℕ) (base i : ℕ) (low : base ≤ 1000000) (few : i < 4096)
       let b = both (addressOnce w base i) (cond (sequenceGiven w p) (namedRightly w p) false) (a .1) in
       let c = both (sequenceGiven w p) (namedRightly w p) (b .1) in
       let numbers : dpcNumbers w (base + 32 * i) ≡ true = ap (dpcNumbers w) (sym entry) ∙ a .0 in
-      let d = not-first (ltb 3 (getD w (base + 32 * i + 1) 0)) (cond (dpcPlaced w (base + 32 * i)) (workPasses w (base + 32 * i)) false) numbers in
+      let d = not-first (ltb 3 (getD w (base + 32 * i + at.phase) 0)) (cond (dpcPlaced w (base + 32 * i)) (workPasses w (base + 32 * i)) false) numbers in
       let f = both (dpcPlaced w (base + 32 * i)) (workPasses w (base + 32 * i)) (d .1) in
       let o = once-form (b .0) in (
         record {
-          phase = ltb-false 3 (getD w (base + 32 * i + 1) 0) (d .0);
-          stands = located-form w (base + 32 * i) 4 (dpcSize (architectureOf (getD w (base + 32 * i + 4) 0))) (f .0);
+          phase = ltb-false 3 (getD w (base + 32 * i + at.phase) 0) (d .0);
+          stands = located-form w (base + 32 * i) 4 (dpcSize (architectureOf (getD w (base + 32 * i + at.dpcArchitecture) 0))) (f .0);
           flags = λ busy. let h = work-form w (base + 32 * i) (f .1) busy in (h .0, h .1);
           caller = λ busy. origin-form w (base + 32 * i) (work-form w (base + 32 * i) (f .1) busy .2);
           no-object = o .1;
@@ -133,8 +134,8 @@ dpcs-in w base (suc m) i e y p q =
     go (no r) h ih = ih r
 
 pub record DpcsForm (w : List ℕ) : Type 0 where
-  pub forms : (i : ℕ) → i < getD w 5 0 → DpcForm w (dpcsFrom (limitsOf w) + 32 * i)
-  pub rises : (i : ℕ) → suc i < getD w 5 0 → getD w (dpcsFrom (limitsOf w) + 32 * i) 0 < getD w (dpcsFrom (limitsOf w) + 32 * suc i) 0
+  pub forms : (i : ℕ) → i < getD w at.dpcs 0 → DpcForm w (dpcsFrom (limitsOf w) + 32 * i)
+  pub rises : (i : ℕ) → suc i < getD w at.dpcs 0 → getD w (dpcsFrom (limitsOf w) + 32 * i) 0 < getD w (dpcsFrom (limitsOf w) + 32 * suc i) 0
 
 pub dpcs-form : (w : List ℕ) → Counted w → dpcsPass w ≡ true → DpcsForm w
 unfolding dpcsPass
@@ -144,10 +145,10 @@ dpcs-form w c e =
       rises = λ i h. rises-form w (dpcsFrom (limitsOf w)) i (low w c) (omega (arith, few)) (of (suc i) h .1);
     }
   where
-    few : getD w 5 0 ≤ 4096
+    few : getD w at.dpcs 0 ≤ 4096
     few = omega (arith, c .dpcs-fit, c .limits .dpcs)
 
-    of : (i : ℕ) → i < getD w 5 0 → (DpcForm w (dpcsFrom (limitsOf w) + 32 * i)) × (keyRises w (dpcsFrom (limitsOf w)) i ≡ true)
+    of : (i : ℕ) → i < getD w at.dpcs 0 → (DpcForm w (dpcsFrom (limitsOf w) + 32 * i)) × (keyRises w (dpcsFrom (limitsOf w)) i ≡ true)
     of i h =
         dpc-form w (dpcsFrom (limitsOf w)) i (low w c) (omega (arith, few))
         (subst (λ (b : ℕ). dpcPasses w b i ≡ true) (dpcs-base w c) (dpcs-in w (dpcsBase w) (dpcCount w) 0 e i (omega arith) (omega (arith, dpc-count w c))))

@@ -8,6 +8,7 @@ use native.Mathlib.Omega.{arith}
 use borrow.Author.Tests.{ne-eqb, le-leb, le-ltb}
 use lib.ListN.{getD}
 use lib.Dec.{eqb, leb, ltb}
+use Rattle.words.specs.Layout as at
 use Rattle.images.specs.declared.Timer.{Timer}
 use Rattle.images.specs.declared.Dpc.{Dpc}
 use Rattle.images.specs.declared.DpcWork.{DpcWork}
@@ -67,7 +68,7 @@ module _ (w : List ℕ) (place holder : ℕ) (d : Dpc) (r : Row w place (dpcRow 
           simp (r 14 0 (z 3), r 15 0 (z 4), r 16 0 (z 5), r 17 0 (z 6), r 18 0 (z 7), r 19 0 (z 8), r 20 0 (z 9))
       go (origin.Timer address arm initialization deadline observed periodic) q = simp (r 14 1 (own (origin.Timer address arm initialization deadline observed periodic) q 3))
 
-  flags-pass : (x : DpcWork) → workOf (d .phase) ≡ some x → cond (ltb 1 (getD w (place + 14) 0)) false (cond (originPasses w place) (leb (getD w (place + 20) 0) 1) false) ≡ true
+  flags-pass : (x : DpcWork) → workOf (d .phase) ≡ some x → cond (ltb 1 (getD w (place + at.origin) 0)) false (cond (originPasses w place) (leb (getD w (place + at.originPeriodic) 0) 1) false) ≡ true
   flags-pass x e =
       let first = kind-word (x .origin) in
       let last = periodic-word (x .origin) in
@@ -82,7 +83,7 @@ module _ (w : List ℕ) (place holder : ℕ) (d : Dpc) (r : Row w place (dpcRow 
       ∙ go (d .phase) refl
     where
       rest : Bool
-      rest = cond (ltb 1 (getD w (place + 14) 0)) false (cond (originPasses w place) (leb (getD w (place + 20) 0) 1) false)
+      rest = cond (ltb 1 (getD w (place + at.origin) 0)) false (cond (originPasses w place) (leb (getD w (place + at.originPeriodic) 0) 1) false)
 
       go : (p : DpcPhase) → d .phase ≡ p → cond (eqb (phaseNumber (d .phase)) 0) true rest ≡ true
       go Idle e = simp e
@@ -94,14 +95,14 @@ module _ (w : List ℕ) (place holder : ℕ) (d : Dpc) (r : Row w place (dpcRow 
   unfolding dpcNumbers
   dpc-numbers h = simp (r 1 (phaseNumber (d .phase)) refl, le-ltb 3 (phaseNumber (d .phase)) (phase-few (d .phase)), dpc-placed h, work-passes)
 
-  pub sequence-given : (accepted : ℕ) → getD w 13 0 ≡ accepted → (isBusy (d .phase) ≡ true → 1 ≤ sequenceOf (workOf (d .phase))) → sequenceOf (workOf (d .phase)) ≤ accepted
+  pub sequence-given : (accepted : ℕ) → getD w at.accepted 0 ≡ accepted → (isBusy (d .phase) ≡ true → 1 ≤ sequenceOf (workOf (d .phase))) → sequenceOf (workOf (d .phase)) ≤ accepted
       → sequenceGiven w place ≡ true
   unfolding sequenceGiven
   sequence-given accepted e one le =
       ap (λ (n : ℕ). cond (eqb n 0) true rest) (r 1 (phaseNumber (d .phase)) refl) ∙ go (d .phase) refl
     where
       rest : Bool
-      rest = cond (eqb (getD w (place + 11) 0) 0) false (leb (getD w (place + 11) 0) (getD w 13 0))
+      rest = cond (eqb (getD w (place + at.workSequence) 0) 0) false (leb (getD w (place + at.workSequence) 0) (getD w at.accepted 0))
 
       bears : (x : DpcWork) → workOf (d .phase) ≡ some x → isBusy (d .phase) ≡ true → rest ≡ true
       bears x q b =

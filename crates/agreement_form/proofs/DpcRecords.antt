@@ -7,6 +7,7 @@ use mathlib.Core.Path.{_≡_, refl, sym, ap, _∙_, subst}
 use native.Mathlib.Omega.{arith}
 use lib.ListN.{getD, length}
 use lib.Dec.{eqb}
+use Rattle.words.specs.Layout as at
 use Rattle.words.specs.Layout.{entryAt}
 use Rattle.tables.specs.Table.{keyAt}
 use Rattle.objects.specs.Objects.{dpcsBase, placeOf}
@@ -83,7 +84,7 @@ module _ (w : List ℕ) (s : State) (a : Agree w s) (v : Form s) where
           key-rises addressOf w (dpcsFrom (s .limits)) table low few (v .queueing .rising) (dpc-keys w s holder (activeAddress table) a) i small,
           key,
           object-missing keyOf w (objectsFrom (s .limits)) (s .dispatcher .objects) (omega (arith, a .shape .sizes .limits .threads)) (omega arith) (base-is w s holder (activeAddress table) a)
-              (a .numbers 4 (length (s .dispatcher .objects)) refl) (objects-few w s holder (activeAddress table) a) (v .sound .rising) (object-keys w s holder (activeAddress table) a) (d .address) no-object,
+              (a .numbers at.objects (length (s .dispatcher .objects)) refl) (objects-few w s holder (activeAddress table) a) (v .sound .rising) (object-keys w s holder (activeAddress table) a) (d .address) no-object,
         )
 
     named-rightly : namedRightly w place ≡ true
@@ -112,7 +113,7 @@ module _ (w : List ℕ) (s : State) (a : Agree w s) (v : Form s) where
           entry,
           dpc-numbers w place (holder (d .address)) d r (v .queueing .places (d .address) d there),
           address-once,
-          sequence-given w place (holder (d .address)) d r (s .dpcs .counters .accepted) (a .numbers 13 (s .dpcs .counters .accepted) refl)
+          sequence-given w place (holder (d .address)) d r (s .dpcs .counters .accepted) (a .numbers at.accepted (s .dpcs .counters .accepted) refl)
               (λ b. subst (λ (p : DpcPhase). 1 ≤ sequenceOf (workOf p)) phase (v .numbers .works (d .address) (ap isBusy phase ∙ b)))
               (subst (λ (p : DpcPhase). sequenceOf (workOf p) ≤ s .dpcs .counters .accepted) phase (v .queueing .given-out (d .address))),
           named-rightly,

@@ -7,6 +7,7 @@ use mathlib.Core.Path.{_≡_, refl, sym, ap, _∙_, subst}
 use native.Mathlib.Omega.{arith}
 use borrow.Author.Tests.{eqb-true}
 use lib.ListN.{getD}
+use Rattle.words.specs.Layout as at
 use Rattle.images.specs.declared.Dpc.{Dpc}
 use Rattle.images.specs.declared.DpcPhase.{DpcPhase}
 use Rattle.images.specs.declared.DpcPhase.the-variants.{Idle}
@@ -34,7 +35,7 @@ use Rattle.agreement_form.proofs.Parts.{Parts}
 use Rattle.agreement_form.proofs.Told.{told, agreeing-told}
 
 module _ (w : List ℕ) (words : Words w) (p : Parts w) where
-  a₀ : Agreeing w (decoded w) (told w) (getD w 25 0)
+  a₀ : Agreeing w (decoded w) (told w) (getD w at.active 0)
   a₀ = agreeing-told w words p
 
   abbrev table : List Dpc
@@ -44,10 +45,10 @@ module _ (w : List ℕ) (words : Words w) (p : Parts w) where
   queue = map (addressAt w) (numbersOf w)
 
   -- what is found is one of the table
-  pub found-at : (a : ℕ) (d : Dpc) → dpcAt table a ≡ some d → (i : ℕ) × (i < getD w 5 0) × (d ≡ dpcOf w i) × (a ≡ dpcOf w i .address)
+  pub found-at : (a : ℕ) (d : Dpc) → dpcAt table a ≡ some d → (i : ℕ) × (i < getD w at.dpcs 0) × (d ≡ dpcOf w i) × (a ≡ dpcOf w i .address)
   found-at a d e =
       let m = found addressOf table a d e in
-      let h = mem-each (dpcOf w) (getD w 5 0) 0 d (m .0) in
+      let h = mem-each (dpcOf w) (getD w at.dpcs 0) 0 d (m .0) in
       (h .0, omega (arith, h .2), h .3, sym (m .1) ∙ ap addressOf (h .3))
 
   places : Each addressOf table DpcPlaced
@@ -57,11 +58,11 @@ module _ (w : List ℕ) (words : Words w) (p : Parts w) where
 
   -- ---- work
 
-  works : (a : ℕ) → (workAt table a ≤ getD w 13 0) × (isBusy (phaseAt table a) ≡ true → 1 ≤ workAt table a)
+  works : (a : ℕ) → (workAt table a ≤ getD w at.accepted 0) × (isBusy (phaseAt table a) ≡ true → 1 ≤ workAt table a)
   works a = go (dpcAt table a) refl
     where
       is : DpcPhase → Type 0
-      is x = (sequenceOf (workOf x) ≤ getD w 13 0) × (isBusy x ≡ true → 1 ≤ sequenceOf (workOf x))
+      is x = (sequenceOf (workOf x) ≤ getD w at.accepted 0) × (isBusy x ≡ true → 1 ≤ sequenceOf (workOf x))
 
       go : (o : Option Dpc) → dpcAt table a ≡ o → is (phaseAt table a)
       go none e = subst (λ (x : Option Dpc). is (given x Idle (λ (d : Dpc). d .phase))) (sym e) (omega arith, (λ q. absurd (not-both (sym q))))
@@ -75,14 +76,14 @@ module _ (w : List ℕ) (words : Words w) (p : Parts w) where
   -- ---- the queue
 
   -- one number to an address
-  same-number : (j k : ℕ) → j < getD w 5 0 → k < getD w 5 0 → dpcOf w j .address ≡ dpcOf w k .address → suc j ≡ suc k
+  same-number : (j k : ℕ) → j < getD w at.dpcs 0 → k < getD w at.dpcs 0 → dpcOf w j .address ≡ dpcOf w k .address → suc j ≡ suc k
   same-number j k b c e =
       ap suc (sym (below-nth addressOf table (dpcs-rise w (p .dpcs)) j (dpcOf w j) (record-at w (p .dpcs) (p .queue) j b))
       ∙ ap (λ (x : ℕ). below addressOf x table) e
       ∙ below-nth addressOf table (dpcs-rise w (p .dpcs)) k (dpcOf w k) (record-at w (p .dpcs) (p .queue) k c))
 
   -- an address stands in the queue if its number stands in the chain
-  in-queue : (a i : ℕ) → i < getD w 5 0 → a ≡ dpcOf w i .address → member a queue ≡ member (suc i) (numbersOf w)
+  in-queue : (a i : ℕ) → i < getD w at.dpcs 0 → a ≡ dpcOf w i .address → member a queue ≡ member (suc i) (numbersOf w)
   in-queue a i small r = go (member a queue) refl (member (suc i) (numbersOf w)) refl
     where
       back : Mem a queue → Mem (suc i) (numbersOf w)
@@ -109,26 +110,26 @@ module _ (w : List ℕ) (words : Words w) (p : Parts w) where
       go (some d) e =
           let h = found-at a d e in
           in-queue a (h .0) (h .1) (h .3) ∙ sym (p .queue .exact (h .0) (h .1))
-          ∙ phase-word w (decoded w) (told w) (getD w 25 0) a₀ 1 (h .0) (dpcOf w (h .0)) (record-at w (p .dpcs) (p .queue) (h .0) (h .1)) ∙ queued-number (dpcOf w (h .0) .phase)
+          ∙ phase-word w (decoded w) (told w) (getD w at.active 0) a₀ 1 (h .0) (dpcOf w (h .0)) (record-at w (p .dpcs) (p .queue) (h .0) (h .1)) ∙ queued-number (dpcOf w (h .0) .phase)
           ∙ ap isQueued (ap (λ (x : Dpc). x .phase) (sym (h .2)) ∙ sym (phase-found table a d e))
 
   -- ---- counts
 
-  sum-form : getD w 13 0 ≡ getD w 15 0 + (getD w 18 0 + (phaseCount w 1 + activeCount w))
+  sum-form : getD w at.accepted 0 ≡ getD w at.removed 0 + (getD w at.restored 0 + (phaseCount w 1 + activeCount w))
   unfolding sumHolds
-  sum-form = eqb-true (getD w 13 0) (getD w 15 0 + (getD w 18 0 + (phaseCount w 1 + activeCount w))) (p .sum)
+  sum-form = eqb-true (getD w at.accepted 0) (getD w at.removed 0 + (getD w at.restored 0 + (phaseCount w 1 + activeCount w))) (p .sum)
 
-  returns-form : getD w 17 0 ≡ getD w 18 0 + phaseCount w 3
+  returns-form : getD w at.returned 0 ≡ getD w at.restored 0 + phaseCount w 3
   unfolding returnsPass
-  returns-form = eqb-true (getD w 17 0) (getD w 18 0 + phaseCount w 3) (p .returns)
+  returns-form = eqb-true (getD w at.returned 0) (getD w at.restored 0 + phaseCount w 3) (p .returns)
 
-  pub queue-form : QueueForm (getD w 2 0) table queue (countersOf w)
+  pub queue-form : QueueForm (getD w at.dpcLimit 0) table queue (countersOf w)
   queue-form =
-      let active = active-count w (decoded w) (told w) (getD w 25 0) a₀ in
+      let active = active-count w (decoded w) (told w) (getD w at.active 0) a₀ in
       let started = starts-form w (p .starts) in
       record {
         rising = dpcs-rise w (p .dpcs);
-        room = omega (arith, length-each (dpcOf w) (getD w 5 0) 0, p .header .dpcs-fit);
+        room = omega (arith, length-each (dpcOf w) (getD w at.dpcs 0) 0, p .header .dpcs-fit);
         places = places;
         queued = queued;
         once = queue-once w (p .dpcs) (p .queue);
@@ -137,5 +138,5 @@ module _ (w : List ℕ) (words : Words w) (p : Parts w) where
         sum = omega (arith, sum-form, active, p .queue .long, length-map (addressAt w) (numbersOf w));
         starts = omega (arith, started .started, active);
         one-active = omega (arith, started .one, active);
-        returns = omega (arith, returns-form, returning-count w (decoded w) (told w) (getD w 25 0) a₀);
+        returns = omega (arith, returns-form, returning-count w (decoded w) (told w) (getD w at.active 0) a₀);
       }

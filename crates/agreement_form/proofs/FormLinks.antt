@@ -7,6 +7,7 @@ use mathlib.Core.Path.{_≡_, refl, sym, ap, _∙_}
 use native.Mathlib.Omega.{arith}
 use borrow.Author.Tests.{eq-eqb, not-true}
 use lib.ListN.{getD, length}
+use Rattle.words.specs.Layout as at
 use Rattle.images.specs.declared.Timer.{Timer}
 use Rattle.images.specs.declared.Dpc.{Dpc}
 use Rattle.objects.specs.Objects.{objectFound, dpcFound}
@@ -33,13 +34,13 @@ use Rattle.agreement_form.proofs.Parts.{Parts}
 use Rattle.agreement_form.proofs.Told.{told, agreeing-told}
 
 module _ (w : List ℕ) (words : Words w) (p : Parts w) where
-  a₀ : Agreeing w (decoded w) (told w) (getD w 25 0)
+  a₀ : Agreeing w (decoded w) (told w) (getD w at.active 0)
   a₀ = agreeing-told w words p
 
   abbrev objects : List Object
   objects = objectsOf w
 
-  serves : (t : Timer) → Mem t (timersOf objects) → t .inserted ≡ true → (t .dpc ≡ 0 → ⊥) → (dpcFound w (t .dpc) ≡ 0 → ⊥) × (getD w (dpcFound w (t .dpc) + 3) 0 ≡ t .address)
+  serves : (t : Timer) → Mem t (timersOf objects) → t .inserted ≡ true → (t .dpc ≡ 0 → ⊥) → (dpcFound w (t .dpc) ≡ 0 → ⊥) × (getD w (dpcFound w (t .dpc) + at.namedBy) 0 ≡ t .address)
   serves t m e q = serves-form w (t .dpc) (t .address) (timer-served w (p .objects) t m e q)
 
   served : (k : ℕ) (x : Object) → objectAt objects k ≡ some x → Exists (tableOf w) x
@@ -53,17 +54,17 @@ module _ (w : List ℕ) (words : Words w) (p : Parts w) where
   alone k (timer t) e j (mutex m) f = tt
   alone k (timer t) e j (event m) f = tt
   alone k (timer t) e j (timer u) f = λ a b q r.
-      sym (serves t (timer-found-mem objects k t e) a q .1) ∙ ap (λ (d : ℕ). getD w (dpcFound w d + 3) 0) r
+      sym (serves t (timer-found-mem objects k t e) a q .1) ∙ ap (λ (d : ℕ). getD w (dpcFound w d + at.namedBy) 0) r
       ∙ serves u (timer-found-mem objects j u f) b (λ z. q (r ∙ z)) .1
 
   -- no object stands where a DPC does
-  no-object : (i : ℕ) → i < getD w 5 0 → present (find keyOf objects (dpcOf w i .address)) ≡ false
+  no-object : (i : ℕ) → i < getD w at.dpcs 0 → present (find keyOf objects (dpcOf w i .address)) ≡ false
   no-object i h =
       let place = dpcsFrom (limitsOf w) + 32 * i in
       let none-found : objectFound w (dpcOf w i .address) ≡ 0 = ap (objectFound w) (address-is w place) ∙ p .dpcs .forms i h .no-object in
       not-true (present (find keyOf objects (dpcOf w i .address)))
-      (sym (object-known keyOf w (objectsFrom (limitsOf w)) objects (omega (arith, p .header .limits .threads)) (omega arith) (base-is w (decoded w) (told w) (getD w 25 0) a₀)
-      (a₀ .numbers 4 (length objects) refl) (objects-few w (decoded w) (told w) (getD w 25 0) a₀) (a₀ .shape .rising) (object-keys w (decoded w) (told w) (getD w 25 0) a₀) (dpcOf w i .address))
+      (sym (object-known keyOf w (objectsFrom (limitsOf w)) objects (omega (arith, p .header .limits .threads)) (omega arith) (base-is w (decoded w) (told w) (getD w at.active 0) a₀)
+      (a₀ .numbers at.objects (length objects) refl) (objects-few w (decoded w) (told w) (getD w at.active 0) a₀) (a₀ .shape .rising) (object-keys w (decoded w) (told w) (getD w at.active 0) a₀) (dpcOf w i .address))
       ∙ eq-eqb (objectFound w (dpcOf w i .address)) 0 none-found)
 
   apart : (k : ℕ) → present (find keyOf objects k) ≡ true → present (dpcAt (tableOf w) k) ≡ false

@@ -7,6 +7,7 @@ use native.Mathlib.Omega.{arith}
 use borrow.Author.Tests.{le-leb, ne-eqb, not-true}
 use lib.ListN.{getD, length}
 use lib.Dec.{eqb, leb}
+use Rattle.words.specs.Layout as at
 use Rattle.threads.specs.Thread.{known}
 use Rattle.images.specs.Place.{architectureOf, backingOf, locationRefusal, timerSize}
 use Rattle.timers.specs.Record.{timerAt, backingAt}
@@ -35,7 +36,7 @@ module _ (w : List ℕ) (p : Parts w) where
   live-told id e =
       let a = both (known w id) (not (hasState w id 4)) e in
       let k = known-form w id (a .0) in
-      let size = length-each (threadBy w) (getD w 3 0) 1 in
+      let size = length-each (threadBy w) (getD w at.threads 0) 1 in
       let there : isThread (decoded w .dispatcher) id ≡ true
       = ap (λ (b : Bool). cond b false (leb id (length (threadsOf w)))) (ne-eqb id 0 (λ q. omega (arith, q, k .0))) ∙ le-leb id (length (threadsOf w)) (omega (arith, size, k .1)) in
       let stays : hasExited (statusOf (decoded w .dispatcher) id) ≡ false
@@ -49,8 +50,8 @@ module _ (w : List ℕ) (p : Parts w) where
 
   -- ---- by kind
 
-  owner-by : (place kind : ℕ) → ObjectForm w place → getD w (place + 1) 0 ≡ kind → OwnerLive (decoded w .dispatcher) (objectBy w place kind)
-  owner-by place zero f k = owner-told (getD w (place + 4) 0) (eqb (getD w (place + 4) 0) 0) refl (f .owner k)
+  owner-by : (place kind : ℕ) → ObjectForm w place → getD w (place + at.kind) 0 ≡ kind → OwnerLive (decoded w .dispatcher) (objectBy w place kind)
+  owner-by place zero f k = owner-told (getD w (place + at.owner) 0) (eqb (getD w (place + at.owner) 0) 0) refl (f .owner k)
   owner-by place (suc zero) f k = tt
   owner-by place (suc (suc zero)) f k = tt
   owner-by place (suc (suc (suc n))) f k = absurd (omega (arith, k, f .kind))
@@ -58,18 +59,18 @@ module _ (w : List ℕ) (p : Parts w) where
   timer-placed : (place : ℕ) → TimerForm w place → Placed (timer (timerAt w place))
   unfolding timerAt backingAt
   timer-placed place f =
-      ap (λ (x : ℕ). locationRefusal x (timerSize (architectureOf (getD w (place + 12) 0))) (architectureOf (getD w (place + 12) 0))
-      (backingOf (getD w (place + 13) 0) (getD w (place + 14) 0) (getD w (place + 15) 0) (getD w (place + 16) 0)))
+      ap (λ (x : ℕ). locationRefusal x (timerSize (architectureOf (getD w (place + at.timerArchitecture) 0))) (architectureOf (getD w (place + at.timerArchitecture) 0))
+      (backingOf (getD w (place + at.timerBacking) 0) (getD w (place + at.timerBase) 0) (getD w (place + at.timerSize) 0) (getD w (place + at.timerMapped) 0)))
       (ap (λ (j : ℕ). getD w j 0) (let z : place + 0 ≡ place = omega arith in z))
       ∙ f .stands .free
 
-  placed-by : (place kind : ℕ) → ObjectForm w place → getD w (place + 1) 0 ≡ kind → Placed (objectBy w place kind)
+  placed-by : (place kind : ℕ) → ObjectForm w place → getD w (place + at.kind) 0 ≡ kind → Placed (objectBy w place kind)
   placed-by place zero f k = f .key
   placed-by place (suc zero) f k = f .key
   placed-by place (suc (suc zero)) f k = timer-placed place (f .timer k)
   placed-by place (suc (suc (suc n))) f k = absurd (omega (arith, k, f .kind))
 
-  fits-by : (place kind : ℕ) → ObjectForm w place → getD w (place + 1) 0 ≡ kind → TimerFits (getD w 19 0) (objectBy w place kind)
+  fits-by : (place kind : ℕ) → ObjectForm w place → getD w (place + at.kind) 0 ≡ kind → TimerFits (getD w at.timerInitializations 0) (objectBy w place kind)
   unfolding timerAt
   fits-by place zero f k = tt
   fits-by place (suc zero) f k = tt
@@ -82,16 +83,16 @@ module _ (w : List ℕ) (p : Parts w) where
   owners-live k x e =
       let h = object-found w (p .objects) k x e in
       let place = objectsFrom (limitsOf w) + 32 * h .0 in
-      subst (OwnerLive (decoded w .dispatcher)) (sym (h .2)) (owner-by place (getD w (place + 1) 0) (p .objects .forms (h .0) (h .1)) refl)
+      subst (OwnerLive (decoded w .dispatcher)) (sym (h .2)) (owner-by place (getD w (place + at.kind) 0) (p .objects .forms (h .0) (h .1)) refl)
 
   pub objects-placed : Each keyOf (objectsOf w) Placed
   objects-placed k x e =
       let h = object-found w (p .objects) k x e in
       let place = objectsFrom (limitsOf w) + 32 * h .0 in
-      subst Placed (sym (h .2)) (placed-by place (getD w (place + 1) 0) (p .objects .forms (h .0) (h .1)) refl)
+      subst Placed (sym (h .2)) (placed-by place (getD w (place + at.kind) 0) (p .objects .forms (h .0) (h .1)) refl)
 
-  pub timers-fit : Each keyOf (objectsOf w) (TimerFits (getD w 19 0))
+  pub timers-fit : Each keyOf (objectsOf w) (TimerFits (getD w at.timerInitializations 0))
   timers-fit k x e =
       let h = object-found w (p .objects) k x e in
       let place = objectsFrom (limitsOf w) + 32 * h .0 in
-      subst (TimerFits (getD w 19 0)) (sym (h .2)) (fits-by place (getD w (place + 1) 0) (p .objects .forms (h .0) (h .1)) refl)
+      subst (TimerFits (getD w at.timerInitializations 0)) (sym (h .2)) (fits-by place (getD w (place + at.kind) 0) (p .objects .forms (h .0) (h .1)) refl)

@@ -8,6 +8,7 @@ use native.Mathlib.Omega.{arith}
 use borrow.Author.Tests.{leb-true, leb-false, ne-eqb}
 use lib.ListN.{getD}
 use lib.Dec.{eqb, leb}
+use Rattle.words.specs.Layout as at
 use Rattle.form.specs.Form.{inForm}
 use Rattle.model.specs.State.{satisfied, timeout}
 use Rattle.model.specs.Threads.{threadOf}
@@ -37,7 +38,7 @@ module _ (w : List ℕ) (words : Words w) (p : Parts w) where
       (subst (λ (b : Bool). ResultFits (cond b (some timeout) (some (satisfied (suc (suc n) - 2))))) (sym (ne-eqb (suc (suc n)) 1 (λ q. omega arith)))
       (let z : suc (suc n) - 2 ≤ 63 = omega arith in z))
 
-  status-fits : (i n : ℕ) → 1 ≤ n → n ≤ 4 → getD w (101 + 160 * i) 0 ≤ 4294967295 → StatusFits (statusBy w i n)
+  status-fits : (i n : ℕ) → 1 ≤ n → n ≤ 4 → getD w (at.threadWord at.status i) 0 ≤ 4294967295 → StatusFits (statusBy w i n)
   status-fits i zero a b h = absurd (omega arith)
   status-fits i (suc zero) a b h = tt
   status-fits i (suc (suc zero)) a b h = tt
@@ -47,15 +48,15 @@ module _ (w : List ℕ) (words : Words w) (p : Parts w) where
 
   thread-fits : (i : ℕ) → ThreadFits (threadOf (decoded w .dispatcher) i)
   thread-fits zero = (tt, omega arith)
-  thread-fits (suc i) = go (leb (suc i) (getD w 3 0)) refl
+  thread-fits (suc i) = go (leb (suc i) (getD w at.threads 0)) refl
     where
-      go : (b : Bool) → leb (suc i) (getD w 3 0) ≡ b → ThreadFits (threadOf (decoded w .dispatcher) (suc i))
+      go : (b : Bool) → leb (suc i) (getD w at.threads 0) ≡ b → ThreadFits (threadOf (decoded w .dispatcher) (suc i))
       go true e =
-          let le = leb-true (suc i) (getD w 3 0) e in
+          let le = leb-true (suc i) (getD w at.threads 0) e in
           let t = p .threads (suc i) (omega arith) le in
           subst ThreadFits (sym (thread-at w (suc i) (omega arith) le))
-          (result-fits (getD w (100 + 160 * suc i) 0) (t .result), status-fits (suc i) (getD w (97 + 160 * suc i) 0) (t .one-state) (t .small-state) (t .status))
-      go false e = subst ThreadFits (sym (thread-past w (suc i) (leb-false (suc i) (getD w 3 0) e))) (tt, omega arith)
+          (result-fits (getD w (at.threadWord at.result suc i) 0) (t .result), status-fits (suc i) (getD w (at.threadWord at.state suc i) 0) (t .one-state) (t .small-state) (t .status))
+      go false e = subst ThreadFits (sym (thread-past w (suc i) (leb-false (suc i) (getD w at.threads 0) e))) (tt, omega arith)
 
   numbers : Numbers (decoded w)
   numbers = record { threads = thread-fits; timers = timers-fit w p; works = bear w words p }
@@ -64,7 +65,7 @@ module _ (w : List ℕ) (words : Words w) (p : Parts w) where
 
   sound : Sound (limitsOf w) (decoded w .dispatcher)
   sound =
-      let size = length-each (threadBy w) (getD w 3 0) 1 in
+      let size = length-each (threadBy w) (getD w at.threads 0) 1 in
       record {
         some = omega (arith, size, p .header .some-thread);
         few = omega (arith, size, p .header .threads-fit);
@@ -73,7 +74,7 @@ module _ (w : List ℕ) (words : Words w) (p : Parts w) where
         waits = waits-valid w words p;
         owners = owners-live w p;
         rising = objects-rise w (p .objects);
-        room = omega (arith, length-each (objectOf w) (getD w 4 0) 0, p .header .objects-fit);
+        room = omega (arith, length-each (objectOf w) (getD w at.objects 0) 0, p .header .objects-fit);
         places = objects-placed w p;
       }
 

@@ -77,47 +77,47 @@ rises-along w (suc k) b (x ∷ xs) l f e =
         below y (inr m) = r .1 y m
 
 module _ (w : List ℕ) (p : Parts w) where
-  few : (i : ℕ) → i ≤ getD w 3 0 → i ≤ 256
+  few : (i : ℕ) → i ≤ getD w at.threads 0 → i ≤ at.mostThreads
   few i h = omega (arith, p .header .threads-fit, p .header .limits .threads)
 
   -- ---- states
 
-  pub status-is : (i : ℕ) → 1 ≤ i → i ≤ getD w 3 0 → statusNumber (threadAt (threadsOf w) i .status) ≡ getD w (97 + 160 * i) 0
+  pub status-is : (i : ℕ) → 1 ≤ i → i ≤ getD w at.threads 0 → statusNumber (threadAt (threadsOf w) i .status) ≡ getD w (at.threadWord at.state i) 0
   status-is i one le =
       let t = p .threads i one le in
-      ap (λ (x : Thread). statusNumber (x .status)) (thread-at w i one le) ∙ status-number w i (getD w (97 + 160 * i) 0) (t .one-state) (t .small-state)
+      ap (λ (x : Thread). statusNumber (x .status)) (thread-at w i one le) ∙ status-number w i (getD w (at.threadWord at.state i) 0) (t .one-state) (t .small-state)
 
-  pub state-is : (i k : ℕ) → 1 ≤ i → i ≤ getD w 3 0 → hasState w i k ≡ eqb (statusNumber (threadAt (threadsOf w) i .status)) k
+  pub state-is : (i k : ℕ) → 1 ≤ i → i ≤ getD w at.threads 0 → hasState w i k ≡ eqb (statusNumber (threadAt (threadsOf w) i .status)) k
   state-is i k one le = state-word w i (few i le) k ∙ ap (λ (n : ℕ). eqb n k) (sym (status-is i one le))
 
   -- a list of exactly the threads of a state
   stand : (k : ℕ) (test : Status → Bool) (xs : List ℕ) → ((x : Status) → eqb (statusNumber x) k ≡ test x) → test (exited 0) ≡ false
-      → chains.Standing (getD w 3 0) xs → ((y : ℕ) → 1 ≤ y → y ≤ getD w 3 0 → hasState w y k ≡ member y xs) → (i : ℕ) → member i xs ≡ test (threadAt (threadsOf w) i .status)
+      → chains.Standing (getD w at.threads 0) xs → ((y : ℕ) → 1 ≤ y → y ≤ getD w at.threads 0 → hasState w y k ≡ member y xs) → (i : ℕ) → member i xs ≡ test (threadAt (threadsOf w) i .status)
   stand k test xs number none st exact zero = not-member zero xs (λ m. omega (arith, st .within zero m .0)) ∙ sym none
-  stand k test xs number none st exact (suc i) = go (leb (suc i) (getD w 3 0)) refl
+  stand k test xs number none st exact (suc i) = go (leb (suc i) (getD w at.threads 0)) refl
     where
-      go : (b : Bool) → leb (suc i) (getD w 3 0) ≡ b → member (suc i) xs ≡ test (threadAt (threadsOf w) (suc i) .status)
+      go : (b : Bool) → leb (suc i) (getD w at.threads 0) ≡ b → member (suc i) xs ≡ test (threadAt (threadsOf w) (suc i) .status)
       go true e =
-          let le = leb-true (suc i) (getD w 3 0) e in
+          let le = leb-true (suc i) (getD w at.threads 0) e in
           sym (exact (suc i) (omega arith) le) ∙ state-is (suc i) k (omega arith) le ∙ number (threadAt (threadsOf w) (suc i) .status)
       go false e =
-          let lt = leb-false (suc i) (getD w 3 0) e in
+          let lt = leb-false (suc i) (getD w at.threads 0) e in
           not-member (suc i) xs (λ m. omega (arith, lt, st .within (suc i) m .1)) ∙ sym (ap (λ (t : Thread). test (t .status)) (thread-past w (suc i) lt) ∙ none)
 
-  waiter : (i : ℕ) → Mem i (chainOf w 4096 waitersChain) → (1 ≤ i) × (i ≤ getD w 3 0)
+  waiter : (i : ℕ) → Mem i (chainOf w 4096 waitersChain) → (1 ≤ i) × (i ≤ getD w at.threads 0)
   waiter i m = p .waiters .standing .within i m
 
-  waits : (i : ℕ) → Mem i (chainOf w 4096 waitersChain) → getD w (97 + 160 * i) 0 ≡ 3
+  waits : (i : ℕ) → Mem i (chainOf w 4096 waitersChain) → getD w (at.threadWord at.state i) 0 ≡ 3
   waits i m =
       let h = waiter i m in
-      eqb-true (getD w (97 + 160 * i) 0) 3 (sym (state-word w i (few i (h .1)) 3) ∙ p .waiters .exact i (h .0) (h .1) ∙ mem-member i (chainOf w 4096 waitersChain) m)
+      eqb-true (getD w (at.threadWord at.state i) 0) 3 (sym (state-word w i (few i (h .1)) 3) ∙ p .waiters .exact i (h .0) (h .1) ∙ mem-member i (chainOf w 4096 waitersChain) m)
 
   sequence-is : (i : ℕ) → Mem i (chainOf w 4096 waitersChain) → form.sequenceAt w i ≡ sequenceAt (threadsOf w) i
   unfolding form.sequenceAt
   sequence-is i m =
       let h = waiter i m in
-      ap (λ (b : Bool). cond b (getD w 7 0) (getD w (at.threadAt i + 9) 0)) (ne-eqb i 0 (λ q. omega (arith, q, h .0)))
-      ∙ ap (λ (j : ℕ). getD w j 0) (let z : at.threadAt i + 9 ≡ 105 + 160 * i = omega (arith, thread-place i (few i (h .1))) in z)
+      ap (λ (b : Bool). cond b (getD w at.sequence 0) (getD w (at.threadAt i + at.waitSequence) 0)) (ne-eqb i 0 (λ q. omega (arith, q, h .0)))
+      ∙ ap (λ (j : ℕ). getD w j 0) (let z : at.threadAt i + at.waitSequence ≡ at.threadWord at.waitSequence i = omega (arith, thread-place i (few i (h .1))) in z)
       ∙ ap (λ (n : ℕ). waitOf (statusBy w i n) .sequence) (sym (waits i m))
       ∙ ap (λ (t : Thread). waitOf (t .status) .sequence) (sym (thread-at w i (h .0) (h .1)))
 
@@ -127,12 +127,12 @@ module _ (w : List ℕ) (p : Parts w) where
       rises-along w 4096 0 (chainOf w 4096 waitersChain) (p .waiters .holds .chain) (λ y m. waiter y m .0)
       (ap (λ (j : ℕ). sequencesIn 4096 w (getD w j 0)) (link-first waitersChain) ∙ p .rise)
 
-  next-sequence : form.sequenceAt w 0 ≡ getD w 7 0
+  next-sequence : form.sequenceAt w 0 ≡ getD w at.sequence 0
   unfolding form.sequenceAt
   next-sequence = refl
 
-  current-runs : (i : ℕ) → 1 ≤ i → eqb i (getD w 6 0) ≡ isRunning (threadAt (threadsOf w) i .status)
-  current-runs i one = go (leb i (getD w 3 0)) refl
+  current-runs : (i : ℕ) → 1 ≤ i → eqb i (getD w at.current 0) ≡ isRunning (threadAt (threadsOf w) i .status)
+  current-runs i one = go (leb i (getD w at.threads 0)) refl
     where
       same : (a b : ℕ) → eqb a b ≡ eqb b a
       same a b = by (ℕ-discrete a b)
@@ -141,15 +141,15 @@ module _ (w : List ℕ) (p : Parts w) where
           by (yes q) = eq-eqb a b q ∙ sym (eq-eqb b a (sym q))
           by (no q) = ne-eqb a b q ∙ sym (ne-eqb b a (λ z. q (sym z)))
 
-      go : (b : Bool) → leb i (getD w 3 0) ≡ b → eqb i (getD w 6 0) ≡ isRunning (threadAt (threadsOf w) i .status)
+      go : (b : Bool) → leb i (getD w at.threads 0) ≡ b → eqb i (getD w at.current 0) ≡ isRunning (threadAt (threadsOf w) i .status)
       go true e =
-          let le = leb-true i (getD w 3 0) e in
-          same i (getD w 6 0) ∙ p .threads i one le .runs ∙ ap (λ (n : ℕ). eqb n 1) (sym (status-is i one le)) ∙ runs-number (threadAt (threadsOf w) i .status)
+          let le = leb-true i (getD w at.threads 0) e in
+          same i (getD w at.current 0) ∙ p .threads i one le .runs ∙ ap (λ (n : ℕ). eqb n 1) (sym (status-is i one le)) ∙ runs-number (threadAt (threadsOf w) i .status)
       go false e =
-          let lt = leb-false i (getD w 3 0) e in
-          ne-eqb i (getD w 6 0) (λ q. omega (arith, q, lt, p .header .current-in)) ∙ ap (λ (t : Thread). isRunning (t .status)) (sym (thread-past w i lt))
+          let lt = leb-false i (getD w at.threads 0) e in
+          ne-eqb i (getD w at.current 0) (λ q. omega (arith, q, lt, p .header .current-in)) ∙ ap (λ (t : Thread). isRunning (t .status)) (sym (thread-past w i lt))
 
-  pub standing : Standing (threadsOf w) (readyTo w 31) (chainOf w 4096 waitersChain) (getD w 6 0) (getD w 7 0)
+  pub standing : Standing (threadsOf w) (readyTo w 31) (chainOf w 4096 waitersChain) (getD w at.current 0) (getD w at.sequence 0)
   standing =
       record {
         placed-ready = stand 2 isReady (readyTo w 31) ready-number refl (p .ready .standing) (p .ready .exact);

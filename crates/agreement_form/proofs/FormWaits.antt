@@ -9,6 +9,7 @@ use native.Mathlib.Decide.{ℕ-discrete}
 use borrow.Author.Tests.{leb-true, leb-false, ne-eqb}
 use lib.ListN.{getD, length}
 use lib.Dec.{leb}
+use Rattle.words.specs.Layout as at
 use Rattle.waits.specs.Object.{valid}
 use Rattle.waits.specs.Lists.{kindIn, keyIn, unknownIn, duplicateIn}
 use Rattle.model.specs.Lists.{Mem, present}
@@ -44,15 +45,15 @@ known-each w place (suc m) i e k p q =
     go (no r) h ih = ih r
 
 module _ (w : List ℕ) (words : Words w) (p : Parts w) where
-  module _ (i : ℕ) (t : ThreadForm w i) (three : getD w (97 + 160 * i) 0 ≡ 3) where
+  module _ (i : ℕ) (t : ThreadForm w i) (three : getD w (at.threadWord at.state i) 0 ≡ 3) where
     abbrev place : ℕ
-    place = 128 + 160 * i
+    place = at.threadWord at.waitPlaces i
 
     abbrev size : ℕ
-    size = getD w (106 + 160 * i) 0
+    size = getD w (at.threadWord at.waitCount i) 0
 
     abbrev objects : List Named
-    objects = each (namedAt w (128 + 160 * i)) (getD w (106 + 160 * i) 0) 0
+    objects = each (namedAt w (at.threadWord at.waitPlaces i)) (getD w (at.threadWord at.waitCount i) 0) 0
 
     pair-words : (k : ℕ) → (kindIn w place k ≡ namedAt w place k .kind) × (keyIn w place k ≡ namedAt w place k .key)
     unfolding kindIn keyIn
@@ -73,7 +74,7 @@ module _ (w : List ℕ) (words : Words w) (p : Parts w) where
         let h = mem-each (namedAt w place) size 0 n m in
         let q = pair-words (h .0) in
         let known = known-each w place size 0 (t .known three) (h .0) (h .1) (h .2) in
-        sym (valid-is w (decoded w) (told w) (getD w 25 0) (agreeing-told w words p) n)
+        sym (valid-is w (decoded w) (told w) (getD w at.active 0) (agreeing-told w words p) n)
         ∙ ap (λ (x : Named). valid w (x .kind) (x .key)) (h .3)
         ∙ ap (λ (k : ℕ). valid w k (namedAt w place (h .0) .key)) (sym (q .0)) ∙ ap (valid w (kindIn w place (h .0))) (sym (q .1)) ∙ known
 
@@ -81,7 +82,7 @@ module _ (w : List ℕ) (words : Words w) (p : Parts w) where
     delay e =
         let none-named : size ≡ 0 = sym (length-each (namedAt w place) size 0) ∙ ap length e in
         let timed = t .delay three none-named in
-        ap (λ (b : Bool). present (cond b none (some (getD w (104 + 160 * i) 0)))) (ne-eqb (getD w (103 + 160 * i) 0) 0 (λ q. omega (arith, q, timed)))
+        ap (λ (b : Bool). present (cond b none (some (getD w (at.threadWord at.deadline i) 0)))) (ne-eqb (getD w (at.threadWord at.hasDeadline i) 0) 0 (λ q. omega (arith, q, timed)))
 
     wait-valid : WaitValid (decoded w .dispatcher) (waitAt w i)
     wait-valid = record { few = wait-fits w i t .few; kinds = wait-fits w i t .kinds; once = named-once; exist = exist; delay = delay }
@@ -96,13 +97,13 @@ module _ (w : List ℕ) (words : Words w) (p : Parts w) where
 
   pub waits-valid : (i : ℕ) → WaitingValid (decoded w .dispatcher) (statusOf (decoded w .dispatcher) i)
   waits-valid zero = tt
-  waits-valid (suc i) = go (leb (suc i) (getD w 3 0)) refl
+  waits-valid (suc i) = go (leb (suc i) (getD w at.threads 0)) refl
     where
-      go : (b : Bool) → leb (suc i) (getD w 3 0) ≡ b → WaitingValid (decoded w .dispatcher) (statusOf (decoded w .dispatcher) (suc i))
+      go : (b : Bool) → leb (suc i) (getD w at.threads 0) ≡ b → WaitingValid (decoded w .dispatcher) (statusOf (decoded w .dispatcher) (suc i))
       go true e =
-          let le = leb-true (suc i) (getD w 3 0) e in
+          let le = leb-true (suc i) (getD w at.threads 0) e in
           let t = p .threads (suc i) (omega arith) le in
           subst (λ (x : Thread). WaitingValid (decoded w .dispatcher) (x .status)) (sym (thread-at w (suc i) (omega arith) le))
-          (by-state (suc i) (getD w (97 + 160 * suc i) 0) (t .one-state) (t .small-state) (wait-valid (suc i) t))
+          (by-state (suc i) (getD w (at.threadWord at.state suc i) 0) (t .one-state) (t .small-state) (wait-valid (suc i) t))
       go false e =
-          subst (λ (x : Thread). WaitingValid (decoded w .dispatcher) (x .status)) (sym (thread-past w (suc i) (leb-false (suc i) (getD w 3 0) e))) tt
+          subst (λ (x : Thread). WaitingValid (decoded w .dispatcher) (x .status)) (sym (thread-past w (suc i) (leb-false (suc i) (getD w at.threads 0) e))) tt

@@ -7,6 +7,7 @@ use native.Mathlib.Omega.{arith}
 use borrow.Author.Tests.{eq-eqb, ne-eqb, le-leb, le-ltb}
 use lib.ListN.{getD, length}
 use lib.Dec.{eqb, ltb}
+use Rattle.words.specs.Layout as at
 use Rattle.opening.specs.Open.{badLimits}
 use Rattle.form.specs.Header.{limitsPass, longEnough, countsPass, currentPasses, readyPasses, noArguments, policyPasses, lifetimesPass, headerNumbers}
 use Rattle.model.specs.State.{State, Thread, Policy, unselected, cpu0Dispatch}
@@ -31,11 +32,11 @@ module _ (w : List ℕ) (s : State) (a : Agree w s) (v : Form s) where
   unfolding limitsPass badLimits
   limits-pass =
       simp (
-        a .numbers 0 (s .limits .threads) refl,
-        a .numbers 1 (s .limits .objects) refl,
-        a .numbers 2 (s .limits .dpcs) refl,
+        a .numbers at.threadLimit (s .limits .threads) refl,
+        a .numbers at.objectLimit (s .limits .objects) refl,
+        a .numbers at.dpcLimit (s .limits .dpcs) refl,
         le-ltb (s .limits .threads) 1 (v .limits .some-thread),
-        le-ltb 256 (s .limits .threads) (v .limits .threads),
+        le-ltb at.mostThreads (s .limits .threads) (v .limits .threads),
         le-ltb 4096 (s .limits .objects) (v .limits .objects),
         le-ltb 4096 (s .limits .dpcs) (v .limits .dpcs),
       )
@@ -44,22 +45,22 @@ module _ (w : List ℕ) (s : State) (a : Agree w s) (v : Form s) where
   unfolding longEnough
   long-enough =
       simp (
-        a .numbers 0 (s .limits .threads) refl,
-        a .numbers 1 (s .limits .objects) refl,
-        a .numbers 2 (s .limits .dpcs) refl,
-        le-leb (256 + 160 * s .limits .threads + 32 * (s .limits .objects + s .limits .dpcs)) (length w) (a .enough),
+        a .numbers at.threadLimit (s .limits .threads) refl,
+        a .numbers at.objectLimit (s .limits .objects) refl,
+        a .numbers at.dpcLimit (s .limits .dpcs) refl,
+        le-leb (at.headerSize + at.threadSize * s .limits .threads + 32 * (s .limits .objects + s .limits .dpcs)) (length w) (a .enough),
       )
 
   pub counts-pass : countsPass w ≡ true
   unfolding countsPass
   counts-pass =
       simp (
-        a .numbers 0 (s .limits .threads) refl,
-        a .numbers 1 (s .limits .objects) refl,
-        a .numbers 2 (s .limits .dpcs) refl,
-        a .numbers 3 (length (s .dispatcher .threads)) refl,
-        a .numbers 4 (length (s .dispatcher .objects)) refl,
-        a .numbers 5 (length (s .dpcs .table)) refl,
+        a .numbers at.threadLimit (s .limits .threads) refl,
+        a .numbers at.objectLimit (s .limits .objects) refl,
+        a .numbers at.dpcLimit (s .limits .dpcs) refl,
+        a .numbers at.threads (length (s .dispatcher .threads)) refl,
+        a .numbers at.objects (length (s .dispatcher .objects)) refl,
+        a .numbers at.dpcs (length (s .dpcs .table)) refl,
         le-ltb (length (s .dispatcher .threads)) 1 (v .sound .some),
         le-ltb (s .limits .threads) (length (s .dispatcher .threads)) (v .sound .few),
         le-ltb (s .limits .objects) (length (s .dispatcher .objects)) (v .sound .room),
@@ -74,22 +75,22 @@ module _ (w : List ℕ) (s : State) (a : Agree w s) (v : Form s) where
   unfolding currentPasses
   current-passes =
       simp (
-        a .numbers 3 (length (s .dispatcher .threads)) refl,
-        a .numbers 6 (s .dispatcher .current) refl,
+        a .numbers at.threads (length (s .dispatcher .threads)) refl,
+        a .numbers at.current (s .dispatcher .current) refl,
         le-leb (s .dispatcher .current) (length (s .dispatcher .threads)) (current-in (s .dispatcher .current) refl),
       )
 
   pub ready-passes : readyPasses w ≡ true
   unfolding readyPasses
-  ready-passes = and-not (ltb 4294967295 (getD w 9 0)) (eqb (bitAt (getD w 9 0) 0) 0) (le-ltb 4294967295 (getD w 9 0) (omega (arith, a .queues .small))) (eq-eqb (bitAt (getD w 9 0) 0) 0 (a .queues .no-zero))
+  ready-passes = and-not (ltb 4294967295 (getD w at.ready 0)) (eqb (bitAt (getD w at.ready 0) 0) 0) (le-ltb 4294967295 (getD w at.ready 0) (omega (arith, a .queues .small))) (eq-eqb (bitAt (getD w at.ready 0) 0) 0 (a .queues .no-zero))
 
   pub policy-passes : policyPasses w ≡ true
   unfolding policyPasses noArguments
   policy-passes =
       simp (
-        a .numbers 10 (policyNumber (s .policy)) refl,
-        a .numbers 11 (firstArgument (s .policy)) refl,
-        a .numbers 12 (secondArgument (s .policy)) refl,
+        a .numbers at.policy (policyNumber (s .policy)) refl,
+        a .numbers at.timerArgument (firstArgument (s .policy)) refl,
+        a .numbers at.timerArgument2 (secondArgument (s .policy)) refl,
         go (s .policy) (v .policy),
       )
     where
@@ -103,9 +104,9 @@ module _ (w : List ℕ) (s : State) (a : Agree w s) (v : Form s) where
   unfolding lifetimesPass
   lifetimes-pass =
       simp (
-        a .numbers 13 (s .dpcs .counters .accepted) refl,
-        a .numbers 19 (s .timerInitializations) refl,
-        a .numbers 20 (s .dpcInitializations) refl,
+        a .numbers at.accepted (s .dpcs .counters .accepted) refl,
+        a .numbers at.timerInitializations (s .timerInitializations) refl,
+        a .numbers at.dpcInitializations (s .dpcInitializations) refl,
         le-ltb 65536 (s .dpcs .counters .accepted) (v .queueing .lived),
         le-ltb 65536 (s .timerInitializations) (v .timers-lived),
         le-leb (s .dpcInitializations) 65536 (v .dpcs-lived),

@@ -16,6 +16,7 @@ use Rattle.form.specs.Header.{limitsPass, longEnough, countsPass, currentPasses
 use Rattle.model.specs.State.{Policy, unselected, cpu0Dispatch}
 use Rattle.model.specs.Valid.{LimitsValid, PolicyValid}
 use Rattle.model.proofs.ListLaws.{neither}
+use Rattle.words.specs.Layout as at
 use Rattle.words.specs.Layout.{entryAt}
 use Rattle.agreement.specs.Row.{Row}
 use Rattle.agreement.specs.Records.{policyNumber, firstArgument, secondArgument}
@@ -28,88 +29,88 @@ use Rattle.agreement_form.proofs.Each.{length-each, row-from, ends, say
 pub record Counted (w : List ℕ) : Type 0 where
   pub limits : LimitsValid (limitsOf w)
   pub enough : Enough w (limitsOf w)
-  pub some-thread : 1 ≤ getD w 3 0
-  pub threads-fit : getD w 3 0 ≤ getD w 0 0
-  pub objects-fit : getD w 4 0 ≤ getD w 1 0
-  pub dpcs-fit : getD w 5 0 ≤ getD w 2 0
-  pub current-in : getD w 6 0 ≤ getD w 3 0
-  pub ready-small : getD w 9 0 < 2 ^ 32
-  pub no-zero : bitAt (getD w 9 0) 0 ≡ 0
-  pub policy-number : policyNumber (policyBy w (getD w 10 0)) ≡ getD w 10 0
-  pub policy : PolicyValid (policyBy w (getD w 10 0))
-  pub no-arguments : getD w 10 0 ≡ 0 → (getD w 11 0 ≡ 0) × (getD w 12 0 ≡ 0)
-  pub lived : getD w 13 0 ≤ 65536
-  pub timers-lived : getD w 19 0 ≤ 65536
-  pub dpcs-lived : getD w 20 0 ≤ 65536
+  pub some-thread : 1 ≤ getD w at.threads 0
+  pub threads-fit : getD w at.threads 0 ≤ getD w at.threadLimit 0
+  pub objects-fit : getD w at.objects 0 ≤ getD w at.objectLimit 0
+  pub dpcs-fit : getD w at.dpcs 0 ≤ getD w at.dpcLimit 0
+  pub current-in : getD w at.current 0 ≤ getD w at.threads 0
+  pub ready-small : getD w at.ready 0 < 2 ^ 32
+  pub no-zero : bitAt (getD w at.ready 0) 0 ≡ 0
+  pub policy-number : policyNumber (policyBy w (getD w at.policy 0)) ≡ getD w at.policy 0
+  pub policy : PolicyValid (policyBy w (getD w at.policy 0))
+  pub no-arguments : getD w at.policy 0 ≡ 0 → (getD w at.timerArgument 0 ≡ 0) × (getD w at.timerArgument2 0 ≡ 0)
+  pub lived : getD w at.accepted 0 ≤ 65536
+  pub timers-lived : getD w at.timerInitializations 0 ≤ 65536
+  pub dpcs-lived : getD w at.dpcInitializations 0 ≤ 65536
 
 module _ (w : List ℕ) where
   limits-form : limitsPass w ≡ true → LimitsValid (limitsOf w)
   unfolding limitsPass badLimits
   limits-form e =
-      let a = neither (ltb (getD w 0 0) 1) (cond (ltb 256 (getD w 0 0)) true (cond (ltb 4096 (getD w 1 0)) true (ltb 4096 (getD w 2 0)))) (not-true (badLimits (getD w 0 0) (getD w 1 0) (getD w 2 0)) e) in
-      let b = neither (ltb 256 (getD w 0 0)) (cond (ltb 4096 (getD w 1 0)) true (ltb 4096 (getD w 2 0))) (a .1) in
-      let c = neither (ltb 4096 (getD w 1 0)) (ltb 4096 (getD w 2 0)) (b .1) in
+      let a = neither (ltb (getD w at.threadLimit 0) 1) (cond (ltb at.mostThreads (getD w at.threadLimit 0)) true (cond (ltb 4096 (getD w at.objectLimit 0)) true (ltb 4096 (getD w at.dpcLimit 0)))) (not-true (badLimits (getD w at.threadLimit 0) (getD w at.objectLimit 0) (getD w at.dpcLimit 0)) e) in
+      let b = neither (ltb at.mostThreads (getD w at.threadLimit 0)) (cond (ltb 4096 (getD w at.objectLimit 0)) true (ltb 4096 (getD w at.dpcLimit 0))) (a .1) in
+      let c = neither (ltb 4096 (getD w at.objectLimit 0)) (ltb 4096 (getD w at.dpcLimit 0)) (b .1) in
       record {
-        some-thread = ltb-false (getD w 0 0) 1 (a .0);
-        threads = ltb-false 256 (getD w 0 0) (b .0);
-        objects = ltb-false 4096 (getD w 1 0) (c .0);
-        dpcs = ltb-false 4096 (getD w 2 0) (c .1);
+        some-thread = ltb-false (getD w at.threadLimit 0) 1 (a .0);
+        threads = ltb-false at.mostThreads (getD w at.threadLimit 0) (b .0);
+        objects = ltb-false 4096 (getD w at.objectLimit 0) (c .0);
+        dpcs = ltb-false 4096 (getD w at.dpcLimit 0) (c .1);
       }
 
   long-form : longEnough w ≡ true → Enough w (limitsOf w)
   unfolding longEnough
-  long-form e = leb-true (wordsNeeded (getD w 0 0) (getD w 1 0) (getD w 2 0)) (length w) e
+  long-form e = leb-true (wordsNeeded (getD w at.threadLimit 0) (getD w at.objectLimit 0) (getD w at.dpcLimit 0)) (length w) e
 
-  counts-form : countsPass w ≡ true → (1 ≤ getD w 3 0) × (getD w 3 0 ≤ getD w 0 0) × (getD w 4 0 ≤ getD w 1 0) × (getD w 5 0 ≤ getD w 2 0)
+  counts-form : countsPass w ≡ true → (1 ≤ getD w at.threads 0) × (getD w at.threads 0 ≤ getD w at.threadLimit 0) × (getD w at.objects 0 ≤ getD w at.objectLimit 0) × (getD w at.dpcs 0 ≤ getD w at.dpcLimit 0)
   unfolding countsPass
   counts-form e =
-      let a = not-first (ltb (getD w 3 0) 1) (cond (ltb (getD w 0 0) (getD w 3 0)) false (cond (ltb (getD w 1 0) (getD w 4 0)) false (leb (getD w 5 0) (getD w 2 0)))) e in
-      let b = not-first (ltb (getD w 0 0) (getD w 3 0)) (cond (ltb (getD w 1 0) (getD w 4 0)) false (leb (getD w 5 0) (getD w 2 0))) (a .1) in
-      let c = not-first (ltb (getD w 1 0) (getD w 4 0)) (leb (getD w 5 0) (getD w 2 0)) (b .1) in
-      (ltb-false (getD w 3 0) 1 (a .0), ltb-false (getD w 0 0) (getD w 3 0) (b .0), ltb-false (getD w 1 0) (getD w 4 0) (c .0), leb-true (getD w 5 0) (getD w 2 0) (c .1))
+      let a = not-first (ltb (getD w at.threads 0) 1) (cond (ltb (getD w at.threadLimit 0) (getD w at.threads 0)) false (cond (ltb (getD w at.objectLimit 0) (getD w at.objects 0)) false (leb (getD w at.dpcs 0) (getD w at.dpcLimit 0)))) e in
+      let b = not-first (ltb (getD w at.threadLimit 0) (getD w at.threads 0)) (cond (ltb (getD w at.objectLimit 0) (getD w at.objects 0)) false (leb (getD w at.dpcs 0) (getD w at.dpcLimit 0))) (a .1) in
+      let c = not-first (ltb (getD w at.objectLimit 0) (getD w at.objects 0)) (leb (getD w at.dpcs 0) (getD w at.dpcLimit 0)) (b .1) in
+      (ltb-false (getD w at.threads 0) 1 (a .0), ltb-false (getD w at.threadLimit 0) (getD w at.threads 0) (b .0), ltb-false (getD w at.objectLimit 0) (getD w at.objects 0) (c .0), leb-true (getD w at.dpcs 0) (getD w at.dpcLimit 0) (c .1))
 
-  current-form : currentPasses w ≡ true → getD w 6 0 ≤ getD w 3 0
+  current-form : currentPasses w ≡ true → getD w at.current 0 ≤ getD w at.threads 0
   unfolding currentPasses
-  current-form e = leb-true (getD w 6 0) (getD w 3 0) e
+  current-form e = leb-true (getD w at.current 0) (getD w at.threads 0) e
 
-  ready-form : readyPasses w ≡ true → (getD w 9 0 < 2 ^ 32) × (bitAt (getD w 9 0) 0 ≡ 0)
+  ready-form : readyPasses w ≡ true → (getD w at.ready 0 < 2 ^ 32) × (bitAt (getD w at.ready 0) 0 ≡ 0)
   unfolding readyPasses
   ready-form e =
-      let a = not-first (ltb 4294967295 (getD w 9 0)) (eqb (bitAt (getD w 9 0) 0) 0) e in
-      (omega (arith, ltb-false 4294967295 (getD w 9 0) (a .0)), eqb-true (bitAt (getD w 9 0) 0) 0 (a .1))
+      let a = not-first (ltb 4294967295 (getD w at.ready 0)) (eqb (bitAt (getD w at.ready 0) 0) 0) e in
+      (omega (arith, ltb-false 4294967295 (getD w at.ready 0) (a .0)), eqb-true (bitAt (getD w at.ready 0) 0) 0 (a .1))
 
-  no-arguments-form : noArguments w ≡ true → (getD w 11 0 ≡ 0) × (getD w 12 0 ≡ 0)
+  no-arguments-form : noArguments w ≡ true → (getD w at.timerArgument 0 ≡ 0) × (getD w at.timerArgument2 0 ≡ 0)
   unfolding noArguments
   no-arguments-form e =
-      let a = both (eqb (getD w 11 0) 0) (eqb (getD w 12 0) 0) e in
-      (eqb-true (getD w 11 0) 0 (a .0), eqb-true (getD w 12 0) 0 (a .1))
+      let a = both (eqb (getD w at.timerArgument 0) 0) (eqb (getD w at.timerArgument2 0) 0) e in
+      (eqb-true (getD w at.timerArgument 0) 0 (a .0), eqb-true (getD w at.timerArgument2 0) 0 (a .1))
 
   policy-form : policyPasses w ≡ true
-      → (policyNumber (policyBy w (getD w 10 0)) ≡ getD w 10 0) × (PolicyValid (policyBy w (getD w 10 0))) × (getD w 10 0 ≡ 0 → (getD w 11 0 ≡ 0) × (getD w 12 0 ≡ 0))
+      → (policyNumber (policyBy w (getD w at.policy 0)) ≡ getD w at.policy 0) × (PolicyValid (policyBy w (getD w at.policy 0))) × (getD w at.policy 0 ≡ 0 → (getD w at.timerArgument 0 ≡ 0) × (getD w at.timerArgument2 0 ≡ 0))
   unfolding policyPasses
-  policy-form e = go (eqb (getD w 10 0) 0) refl e
+  policy-form e = go (eqb (getD w at.policy 0) 0) refl e
     where
       rest : Bool
-      rest = cond (eqb (getD w 10 0) 1) (cond (eqb (getD w 11 0) 0) false (cond (eqb (getD w 12 0) 0) false (not (eqb (getD w 11 0) (getD w 12 0))))) false
+      rest = cond (eqb (getD w at.policy 0) 1) (cond (eqb (getD w at.timerArgument 0) 0) false (cond (eqb (getD w at.timerArgument2 0) 0) false (not (eqb (getD w at.timerArgument 0) (getD w at.timerArgument2 0))))) false
 
-      go : (b : Bool) → eqb (getD w 10 0) 0 ≡ b → cond b (noArguments w) rest ≡ true
-          → (policyNumber (cond b unselected (cpu0Dispatch (getD w 11 0) (getD w 12 0))) ≡ getD w 10 0) × (PolicyValid (cond b unselected (cpu0Dispatch (getD w 11 0) (getD w 12 0)))) × (getD w 10 0 ≡ 0 → (getD w 11 0 ≡ 0) × (getD w 12 0 ≡ 0))
-      go true q h = (sym (eqb-true (getD w 10 0) 0 q), tt, (λ z. no-arguments-form h))
+      go : (b : Bool) → eqb (getD w at.policy 0) 0 ≡ b → cond b (noArguments w) rest ≡ true
+          → (policyNumber (cond b unselected (cpu0Dispatch (getD w at.timerArgument 0) (getD w at.timerArgument2 0))) ≡ getD w at.policy 0) × (PolicyValid (cond b unselected (cpu0Dispatch (getD w at.timerArgument 0) (getD w at.timerArgument2 0)))) × (getD w at.policy 0 ≡ 0 → (getD w at.timerArgument 0 ≡ 0) × (getD w at.timerArgument2 0 ≡ 0))
+      go true q h = (sym (eqb-true (getD w at.policy 0) 0 q), tt, (λ z. no-arguments-form h))
       go false q h =
-          let a = both (eqb (getD w 10 0) 1) (cond (eqb (getD w 11 0) 0) false (cond (eqb (getD w 12 0) 0) false (not (eqb (getD w 11 0) (getD w 12 0))))) h in
-          let b = not-first (eqb (getD w 11 0) 0) (cond (eqb (getD w 12 0) 0) false (not (eqb (getD w 11 0) (getD w 12 0)))) (a .1) in
-          let c = not-first (eqb (getD w 12 0) 0) (not (eqb (getD w 11 0) (getD w 12 0))) (b .1) in (
-            sym (eqb-true (getD w 10 0) 1 (a .0)),
-            (eqb-false (getD w 11 0) 0 (b .0), eqb-false (getD w 12 0) 0 (c .0), eqb-false (getD w 11 0) (getD w 12 0) (not-true (eqb (getD w 11 0) (getD w 12 0)) (c .1))),
-            (λ z. absurd (eqb-false (getD w 10 0) 0 q z)),
+          let a = both (eqb (getD w at.policy 0) 1) (cond (eqb (getD w at.timerArgument 0) 0) false (cond (eqb (getD w at.timerArgument2 0) 0) false (not (eqb (getD w at.timerArgument 0) (getD w at.timerArgument2 0))))) h in
+          let b = not-first (eqb (getD w at.timerArgument 0) 0) (cond (eqb (getD w at.timerArgument2 0) 0) false (not (eqb (getD w at.timerArgument 0) (getD w at.timerArgument2 0)))) (a .1) in
+          let c = not-first (eqb (getD w at.timerArgument2 0) 0) (not (eqb (getD w at.timerArgument 0) (getD w at.timerArgument2 0))) (b .1) in (
+            sym (eqb-true (getD w at.policy 0) 1 (a .0)),
+            (eqb-false (getD w at.timerArgument 0) 0 (b .0), eqb-false (getD w at.timerArgument2 0) 0 (c .0), eqb-false (getD w at.timerArgument 0) (getD w at.timerArgument2 0) (not-true (eqb (getD w at.timerArgument 0) (getD w at.timerArgument2 0)) (c .1))),
+            (λ z. absurd (eqb-false (getD w at.policy 0) 0 q z)),
           )
 
-  lifetimes-form : lifetimesPass w ≡ true → (getD w 13 0 ≤ 65536) × (getD w 19 0 ≤ 65536) × (getD w 20 0 ≤ 65536)
+  lifetimes-form : lifetimesPass w ≡ true → (getD w at.accepted 0 ≤ 65536) × (getD w at.timerInitializations 0 ≤ 65536) × (getD w at.dpcInitializations 0 ≤ 65536)
   unfolding lifetimesPass
   lifetimes-form e =
-      let a = not-first (ltb 65536 (getD w 13 0)) (cond (ltb 65536 (getD w 19 0)) false (leb (getD w 20 0) 65536)) e in
-      let b = not-first (ltb 65536 (getD w 19 0)) (leb (getD w 20 0) 65536) (a .1) in
-      (ltb-false 65536 (getD w 13 0) (a .0), ltb-false 65536 (getD w 19 0) (b .0), leb-true (getD w 20 0) 65536 (b .1))
+      let a = not-first (ltb 65536 (getD w at.accepted 0)) (cond (ltb 65536 (getD w at.timerInitializations 0)) false (leb (getD w at.dpcInitializations 0) 65536)) e in
+      let b = not-first (ltb 65536 (getD w at.timerInitializations 0)) (leb (getD w at.dpcInitializations 0) 65536) (a .1) in
+      (ltb-false 65536 (getD w at.accepted 0) (a .0), ltb-false 65536 (getD w at.timerInitializations 0) (b .0), leb-true (getD w at.dpcInitializations 0) 65536 (b .1))
 
   pub counted : limitsPass w ≡ true → longEnough w ≡ true → headerNumbers w ≡ true → Counted w
   unfolding headerNumbers
@@ -141,39 +142,39 @@ module _ (w : List ℕ) where
 -- ---- counts and places
 
 module _ (w : List ℕ) (c : Counted w) where
-  pub thread-count : threadCount w ≡ getD w 3 0
+  pub thread-count : threadCount w ≡ getD w at.threads 0
   unfolding threadCount
-  thread-count = simp (le-leb (getD w 3 0) 256 (omega (arith, c .threads-fit, c .limits .threads)))
+  thread-count = simp (le-leb (getD w at.threads 0) at.mostThreads (omega (arith, c .threads-fit, c .limits .threads)))
 
-  pub object-count : objectCount w ≡ getD w 4 0
+  pub object-count : objectCount w ≡ getD w at.objects 0
   unfolding objectCount
-  object-count = simp (le-leb (getD w 4 0) 4096 (omega (arith, c .objects-fit, c .limits .objects)))
+  object-count = simp (le-leb (getD w at.objects 0) 4096 (omega (arith, c .objects-fit, c .limits .objects)))
 
-  pub dpc-count : dpcCount w ≡ getD w 5 0
+  pub dpc-count : dpcCount w ≡ getD w at.dpcs 0
   unfolding dpcCount
-  dpc-count = simp (le-leb (getD w 5 0) 4096 (omega (arith, c .dpcs-fit, c .limits .dpcs)))
+  dpc-count = simp (le-leb (getD w at.dpcs 0) 4096 (omega (arith, c .dpcs-fit, c .limits .dpcs)))
 
   pub objects-base : objectsBase w ≡ objectsFrom (limitsOf w)
   unfolding objectsBase
-  objects-base = objects-place (getD w 0 0) (c .limits .threads)
+  objects-base = objects-place (getD w at.threadLimit 0) (c .limits .threads)
 
   pub dpcs-base : dpcsBase w ≡ dpcsFrom (limitsOf w)
   unfolding dpcsBase
   dpcs-base =
-      ap (λ (b : ℕ). entryAt b (getD w 1 0)) objects-base
-      ∙ entry-place (objectsFrom (limitsOf w)) (getD w 1 0) (omega (arith, c .limits .threads)) (omega (arith, c .limits .objects))
+      ap (λ (b : ℕ). entryAt b (getD w at.objectLimit 0)) objects-base
+      ∙ entry-place (objectsFrom (limitsOf w)) (getD w at.objectLimit 0) (omega (arith, c .limits .threads)) (omega (arith, c .limits .objects))
 
   pub low : dpcsFrom (limitsOf w) ≤ 1000000
   low = omega (arith, c .limits .threads, c .limits .objects)
 
   -- ---- the header's numbers
 
-  pub header-row : Row w 0 (headerOf (decoded w) (getD w 25 0))
-  header-row = row-from w 0 (headerOf (decoded w) (getD w 25 0))
+  pub header-row : Row w 0 (headerOf (decoded w) (getD w at.active 0))
+  header-row = row-from w 0 (headerOf (decoded w) (getD w at.active 0))
       (says refl (says refl (says refl
-      (says (sym (length-each (threadBy w) (getD w 3 0) 1))
-      (says (sym (length-each (objectOf w) (getD w 4 0) 0))
-      (says (sym (length-each (dpcOf w) (getD w 5 0) 0))
+      (says (sym (length-each (threadBy w) (getD w at.threads 0) 1))
+      (says (sym (length-each (objectOf w) (getD w at.objects 0) 0))
+      (says (sym (length-each (dpcOf w) (getD w at.dpcs 0) 0))
       (says refl (says refl (says refl
       (skips
       (says (sym (c .policy-number))
@@ -185,18 +186,18 @@ module _ (w : List ℕ) (c : Counted w) where
       (says refl ends))))))))))))))))))))))))))
     where
       policy : Policy
-      policy = policyBy w (getD w 10 0)
+      policy = policyBy w (getD w at.policy 0)
 
-      arguments : (getD w 11 0 ≡ firstArgument policy) × (getD w 12 0 ≡ secondArgument policy)
-      arguments = go (eqb (getD w 10 0) 0) refl
+      arguments : (getD w at.timerArgument 0 ≡ firstArgument policy) × (getD w at.timerArgument2 0 ≡ secondArgument policy)
+      arguments = go (eqb (getD w at.policy 0) 0) refl
         where
-          go : (b : Bool) → eqb (getD w 10 0) 0 ≡ b → (getD w 11 0 ≡ firstArgument (policyBy w (getD w 10 0))) × (getD w 12 0 ≡ secondArgument (policyBy w (getD w 10 0)))
+          go : (b : Bool) → eqb (getD w at.policy 0) 0 ≡ b → (getD w at.timerArgument 0 ≡ firstArgument (policyBy w (getD w at.policy 0))) × (getD w at.timerArgument2 0 ≡ secondArgument (policyBy w (getD w at.policy 0)))
           go true q =
-              let h = c .no-arguments (eqb-true (getD w 10 0) 0 q) in (
-                h .0 ∙ ap (λ (b : Bool). firstArgument (cond b unselected (cpu0Dispatch (getD w 11 0) (getD w 12 0)))) (sym q),
-                h .1 ∙ ap (λ (b : Bool). secondArgument (cond b unselected (cpu0Dispatch (getD w 11 0) (getD w 12 0)))) (sym q),
+              let h = c .no-arguments (eqb-true (getD w at.policy 0) 0 q) in (
+                h .0 ∙ ap (λ (b : Bool). firstArgument (cond b unselected (cpu0Dispatch (getD w at.timerArgument 0) (getD w at.timerArgument2 0)))) (sym q),
+                h .1 ∙ ap (λ (b : Bool). secondArgument (cond b unselected (cpu0Dispatch (getD w at.timerArgument 0) (getD w at.timerArgument2 0)))) (sym q),
               )
           go false q = (
-            ap (λ (b : Bool). firstArgument (cond b unselected (cpu0Dispatch (getD w 11 0) (getD w 12 0)))) (sym q),
-            ap (λ (b : Bool). secondArgument (cond b unselected (cpu0Dispatch (getD w 11 0) (getD w 12 0)))) (sym q),
+            ap (λ (b : Bool). firstArgument (cond b unselected (cpu0Dispatch (getD w at.timerArgument 0) (getD w at.timerArgument2 0)))) (sym q),
+            ap (λ (b : Bool). secondArgument (cond b unselected (cpu0Dispatch (getD w at.timerArgument 0) (getD w at.timerArgument2 0)))) (sym q),
           )

@@ -7,6 +7,7 @@ use native.Mathlib.Omega.{arith}
 use borrow.Author.Tests.{eqb-true, leb-true, ltb-false}
 use lib.ListN.{getD, length}
 use lib.Dec.{leb, ltb}
+use Rattle.words.specs.Layout as at
 use Rattle.chains.specs.Ready.{waitersChain}
 use Rattle.threads.specs.Thread.{known}
 use Rattle.form_threads.specs.Thread.{hasState, stateCountIn, stateCount}
@@ -22,15 +23,15 @@ use Rattle.agreement_form.proofs.ChainForm.{Walked, walked-once, chain-
 
 -- ---- members
 
-pub known-form : (w : List ℕ) (id : ℕ) → known w id ≡ true → (1 ≤ id) × (id ≤ getD w 3 0)
+pub known-form : (w : List ℕ) (id : ℕ) → known w id ≡ true → (1 ≤ id) × (id ≤ getD w at.threads 0)
 unfolding known
 known-form w id e =
-    let h = not-first (ltb id 1) (leb id (getD w 3 0)) e in
-    (ltb-false id 1 (h .0), leb-true id (getD w 3 0) (h .1))
+    let h = not-first (ltb id 1) (leb id (getD w at.threads 0)) e in
+    (ltb-false id 1 (h .0), leb-true id (getD w at.threads 0) (h .1))
 
 pub record Member (w : List ℕ) (id state p : ℕ) : Type 0 where
   pub one : 1 ≤ id
-  pub le : id ≤ getD w 3 0
+  pub le : id ≤ getD w at.threads 0
   pub state-is : hasState w id state ≡ true
   pub priority-is : hasPriority w id p ≡ true
 
@@ -43,19 +44,19 @@ member-form w id state p e =
 
 -- ---- a list without repeats of threads of a state, as long as they are many, has all of them
 
-pub state-exact : (w : List ℕ) → Counted w → (state : ℕ) (xs : List ℕ) → Standing (getD w 3 0) xs → ((y : ℕ) → Mem y xs → hasState w y state ≡ true) → stateCount w state ≡ length xs
-    → (y : ℕ) → 1 ≤ y → y ≤ getD w 3 0 → hasState w y state ≡ member y xs
+pub state-exact : (w : List ℕ) → Counted w → (state : ℕ) (xs : List ℕ) → Standing (getD w at.threads 0) xs → ((y : ℕ) → Mem y xs → hasState w y state ≡ true) → stateCount w state ≡ length xs
+    → (y : ℕ) → 1 ≤ y → y ≤ getD w at.threads 0 → hasState w y state ≡ member y xs
 unfolding stateCount
 state-exact w c state xs st h e y one le =
-    tally-exact (λ i. hasState w i state) (getD w 3 0) 1 xs (st .once) (λ z m. (st .within z m .0, omega (arith, st .within z m .1))) h
-    (sym (state-tally w state (getD w 3 0) 1) ∙ ap (λ (m : ℕ). stateCountIn m w 1 state) (sym (thread-count w c)) ∙ e) y one (omega arith)
+    tally-exact (λ i. hasState w i state) (getD w at.threads 0) 1 xs (st .once) (λ z m. (st .within z m .0, omega (arith, st .within z m .1))) h
+    (sym (state-tally w state (getD w at.threads 0) 1) ∙ ap (λ (m : ℕ). stateCountIn m w 1 state) (sym (thread-count w c)) ∙ e) y one (omega arith)
 
 -- ---- the waiters
 
 pub record WaitersForm (w : List ℕ) : Type 0 where
   pub holds : Holds w waitersChain (chainOf w 4096 waitersChain)
-  pub standing : Standing (getD w 3 0) (chainOf w 4096 waitersChain)
-  pub exact : (y : ℕ) → 1 ≤ y → y ≤ getD w 3 0 → hasState w y 3 ≡ member y (chainOf w 4096 waitersChain)
+  pub standing : Standing (getD w at.threads 0) (chainOf w 4096 waitersChain)
+  pub exact : (y : ℕ) → 1 ≤ y → y ≤ getD w at.threads 0 → hasState w y 3 ≡ member y (chainOf w 4096 waitersChain)
 
 pub waiters-form : (w : List ℕ) → Counted w → waitersStandOnce w ≡ true → WaitersForm w
 unfolding waitersStandOnce
@@ -78,5 +79,5 @@ waiters-form w c e =
     of : (y : ℕ) → Mem y xs → Member w y 3 0
     of y m = member-form w y 3 0 (walk .each-passes y m .1)
 
-    standing : Standing (getD w 3 0) xs
+    standing : Standing (getD w at.threads 0) xs
     standing = record { within = λ y m. (of y m .one, of y m .le); once = walked-once w waitersChain (λ y. memberPasses w y 3 0) 0 1 (chainSize w waitersChain 3 0) xs walk }

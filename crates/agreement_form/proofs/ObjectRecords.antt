@@ -8,6 +8,7 @@ use native.Mathlib.Omega.{arith}
 use borrow.Author.Tests.{ne-eqb, le-leb, le-ltb, leb-true}
 use lib.ListN.{getD, length}
 use lib.Dec.{eqb, leb}
+use Rattle.words.specs.Layout as at
 use Rattle.words.specs.Layout.{entryAt}
 use Rattle.tables.specs.Table.{keyAt}
 use Rattle.objects.specs.Objects.{objectsBase}
@@ -116,18 +117,18 @@ module _ (w : List ℕ) (s : State) (a : Agree w s) (v : Form s) where
         ∙ go x (a .objects i x e) (v .sound .places (keyOf x) x there) (v .numbers .timers (keyOf x) x there)
       where
         by-kind : ℕ → Bool
-        by-kind p = cond (eqb (getD w (p + 1) 0) 0) (mutexPasses w p) (cond (eqb (getD w (p + 1) 0) 1) (eventPasses w p) (cond (eqb (getD w (p + 1) 0) 2) (timerNumbers w p) false))
+        by-kind p = cond (eqb (getD w (p + at.kind) 0) 0) (mutexPasses w p) (cond (eqb (getD w (p + at.kind) 0) 1) (eventPasses w p) (cond (eqb (getD w (p + at.kind) 0) 2) (timerNumbers w p) false))
 
         go : (x : Object) → Row w place (objectRow x) → Placed x → TimerFits (s .timerInitializations) x
-            → cond (eqb (getD w (place + 1) 0) 0) (mutexPasses w place) (cond (eqb (getD w (place + 1) 0) 1) (eventPasses w place) (cond (eqb (getD w (place + 1) 0) 2) (timerNumbers w place) false)) ≡ true
+            → cond (eqb (getD w (place + at.kind) 0) 0) (mutexPasses w place) (cond (eqb (getD w (place + at.kind) 0) 1) (eventPasses w place) (cond (eqb (getD w (place + at.kind) 0) 2) (timerNumbers w place) false)) ≡ true
         go (mutex m) r p f = simp (r 1 0 refl, no-flags m r)
         go (event m) r p f = simp (r 1 1 refl, flags m r)
-        go (timer t) r p f = simp (r 1 2 refl, timer-numbers w place t r (s .timerInitializations) (a .numbers 19 (s .timerInitializations) refl) f p)
+        go (timer t) r p f = simp (r 1 2 refl, timer-numbers w place t r (s .timerInitializations) (a .numbers at.timerInitializations (s .timerInitializations) refl) f p)
 
     owner : ownerLives w (objectsFrom (s .limits)) i ≡ true
     unfolding ownerLives
     owner =
-        ap (λ (p : ℕ). cond (eqb (getD w (p + 1) 0) 0) (cond (eqb (getD w (p + 4) 0) 0) true (live w (getD w (p + 4) 0))) (eqb (getD w (p + 4) 0) 0)) entry
+        ap (λ (p : ℕ). cond (eqb (getD w (p + at.kind) 0) 0) (cond (eqb (getD w (p + at.owner) 0) 0) true (live w (getD w (p + at.owner) 0))) (eqb (getD w (p + at.owner) 0) 0)) entry
         ∙ go x (a .objects i x e) (v .sound .owners (keyOf x) x there)
       where
         last : (o : ℕ) (b : Bool) → eqb o 0 ≡ b → cond b true (isLive (s .dispatcher) o) ≡ true → cond b true (live w o) ≡ true
@@ -135,7 +136,7 @@ module _ (w : List ℕ) (s : State) (a : Agree w s) (v : Form s) where
         last o false q h = live-is o h
 
         go : (x : Object) → Row w place (objectRow x) → OwnerLive (s .dispatcher) x
-            → cond (eqb (getD w (place + 1) 0) 0) (cond (eqb (getD w (place + 4) 0) 0) true (live w (getD w (place + 4) 0))) (eqb (getD w (place + 4) 0) 0) ≡ true
+            → cond (eqb (getD w (place + at.kind) 0) 0) (cond (eqb (getD w (place + at.owner) 0) 0) true (live w (getD w (place + at.owner) 0))) (eqb (getD w (place + at.owner) 0) 0) ≡ true
         go (mutex m) r h = simp (r 1 0 refl, r 4 (m .owner) refl, last (m .owner) (eqb (m .owner) 0) refl h)
         go (event m) r h = simp (r 1 1 refl, r 4 0 refl)
         go (timer t) r h = simp (r 1 2 refl, r 4 0 refl)

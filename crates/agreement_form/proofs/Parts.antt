@@ -4,6 +4,7 @@ use mathlib.Core.List.{List}
 use mathlib.Core.Bool.{cond, true, false}
 use mathlib.Core.Path.{_≡_}
 use lib.ListN.{getD}
+use Rattle.words.specs.Layout as at
 use Rattle.form_dpc.specs.Dpc.{dpcsPass}
 use Rattle.form_dpc.specs.Queue.{queueStandsOnce}
 use Rattle.form_dpc.specs.Counts.{sumHolds, startsPass, returnsPass}
@@ -23,7 +24,7 @@ use Rattle.agreement_form.proofs.DecodedQueue.{QueueIs, queue-is}
 
 pub record Parts (w : List ℕ) : Type 0 where
   pub header : Counted w
-  pub threads : (i : ℕ) → 1 ≤ i → i ≤ getD w 3 0 → ThreadForm w i
+  pub threads : (i : ℕ) → 1 ≤ i → i ≤ getD w at.threads 0 → ThreadForm w i
   pub objects : ObjectsForm w
   pub dpcs : DpcsForm w
   pub rise : sequencesRise w ≡ true

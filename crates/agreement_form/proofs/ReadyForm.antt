@@ -9,6 +9,7 @@ use native.Mathlib.Decide.{ℕ-discrete}
 use borrow.Author.Tests.{eq-eqb, ne-eqb, eqb-true}
 use lib.ListN.{getD, length}
 use lib.Dec.{eqb}
+use Rattle.words.specs.Layout as at
 use Rattle.chains.specs.Ready.{readyChain}
 use Rattle.form_threads.specs.Thread.{hasState, stateCount}
 use Rattle.form_chains.specs.Chain.{queueSize, queuesIn, readySize, readyStandOnce}
@@ -124,8 +125,8 @@ module _ (w : List ℕ) (c : Counted w) (is : (q : ℕ) → 1 ≤ q → q < 32 �
 
 pub record ReadyForm (w : List ℕ) : Type 0 where
   pub queues : ReadyQueues w (queuesOf (threadsOf w) (readyTo w 31))
-  pub standing : Standing (getD w 3 0) (readyTo w 31)
-  pub exact : (y : ℕ) → 1 ≤ y → y ≤ getD w 3 0 → hasState w y 2 ≡ member y (readyTo w 31)
+  pub standing : Standing (getD w at.threads 0) (readyTo w 31)
+  pub exact : (y : ℕ) → 1 ≤ y → y ≤ getD w at.threads 0 → hasState w y 2 ≡ member y (readyTo w 31)
 
 pub ready-form : (w : List ℕ) → Counted w → readyStandOnce w ≡ true → ReadyForm w
 unfolding readyStandOnce readySize
@@ -145,7 +146,7 @@ ready-form w c e =
     is : (q : ℕ) → 1 ≤ q → q < 32 → QueueIs w q
     is = walk .0
 
-    standing : Standing (getD w 3 0) (readyTo w 31)
+    standing : Standing (getD w at.threads 0) (readyTo w 31)
     standing = record {
       within = λ y m. let k = low w c is 31 y (omega arith) m .1 in (k .one, k .le);
       once = once w c is 31 (omega arith);

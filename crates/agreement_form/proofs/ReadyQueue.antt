@@ -96,15 +96,15 @@ module _ (w : List ℕ) (p : ℕ) (is : QueueIs w p) (one : 1 ≤ p) where
   unfolding hasPriority
   queue-priority c y m =
       let k = queue-member y m in
-      let e = if-not (eqb p 0) (eqb (getD w (at.threadAt y + 0) 0) p) (k .priority-is) (ne-eqb p 0 (λ q. omega (arith, q, one))) in
+      let e = if-not (eqb p 0) (eqb (getD w (at.threadAt y + at.priority) 0) p) (k .priority-is) (ne-eqb p 0 (λ q. omega (arith, q, one))) in
       ap (λ t. t .priority) (thread-at w y (k .one) (k .le))
-      ∙ ap (λ (i : ℕ). getD w i 0) (let z : 96 + 160 * y ≡ at.threadAt y + 0 = omega (arith, thread-place y (omega (arith, k .le, c .threads-fit, c .limits .threads))) in z)
-      ∙ eqb-true (getD w (at.threadAt y + 0) 0) p e
+      ∙ ap (λ (i : ℕ). getD w i 0) (let z : at.threadFrom y ≡ at.threadAt y + at.priority = omega (arith, thread-place y (omega (arith, k .le, c .threads-fit, c .limits .threads))) in z)
+      ∙ eqb-true (getD w (at.threadAt y + at.priority) 0) p e
 
-  pub queue-bit : bitAt (getD w 9 0) p ≡ someOne (lastFrom 0 (chainOf w 4096 (readyChain p)))
+  pub queue-bit : bitAt (getD w at.ready 0) p ≡ someOne (lastFrom 0 (chainOf w 4096 (readyChain p)))
   unfolding bitPasses flag
   queue-bit =
-      eqb-true (bitAt (getD w 9 0) p) (flag (getD w (readyChain p .last) 0)) (is .bit) ∙ ap flag (queue-walk .last) ∙ go (lastFrom 0 (chainOf w 4096 (readyChain p)))
+      eqb-true (bitAt (getD w at.ready 0) p) (flag (getD w (readyChain p .last) 0)) (is .bit) ∙ ap flag (queue-walk .last) ∙ go (lastFrom 0 (chainOf w 4096 (readyChain p)))
     where
       go : (n : ℕ) → flag n ≡ someOne n
       go zero = refl

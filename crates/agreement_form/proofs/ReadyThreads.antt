@@ -95,9 +95,9 @@ module _ (w : List ℕ) (s : State) (a : Agree w s) (v : Form s) where
   unfolding hasPriority
   has-priority i p one le e = go (eqb p 0)
     where
-      go : (b : Bool) → cond b true (eqb (getD w (at.threadAt i + 0) 0) p) ≡ true
+      go : (b : Bool) → cond b true (eqb (getD w (at.threadAt i + at.priority) 0) p) ≡ true
       go true = refl
-      go false = eq-eqb (getD w (at.threadAt i + 0) 0) p (thread-word-is w s (holderOf (s .dispatcher .objects)) (activeAddress (s .dpcs .table)) a i one le 0 (threadOf (s .dispatcher) i .priority) refl ∙ e)
+      go false = eq-eqb (getD w (at.threadAt i + at.priority) 0) p (thread-word-is w s (holderOf (s .dispatcher .objects)) (activeAddress (s .dpcs .table)) a i one le 0 (threadOf (s .dispatcher) i .priority) refl ∙ e)
 
   queue-size : (p : ℕ) → 1 ≤ p → p ≤ 31 → queueSize w p ≡ length (queues p) + 1
   unfolding queueSize
@@ -113,7 +113,7 @@ module _ (w : List ℕ) (s : State) (a : Agree w s) (v : Form s) where
   bit-passes : (p : ℕ) → 1 ≤ p → p ≤ 31 → bitPasses w p ≡ true
   unfolding bitPasses
   bit-passes p one le =
-      eq-eqb (bitAt (getD w 9 0) p) (flag (getD w (readyChain p .last) 0))
+      eq-eqb (bitAt (getD w at.ready 0) p) (flag (getD w (readyChain p .last) 0))
       (a .queues .bits p one le ∙ sym (flag-is (lastFrom 0 (queues p))) ∙ ap flag (sym (a .queues .queues p one le .last)))
 
   queues-in : (k p m : ℕ) → 1 ≤ p → p + k ≤ 32 → queuesIn k w p m ≡ m + total (priorityOf (s .dispatcher)) placed k p

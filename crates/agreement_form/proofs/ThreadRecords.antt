@@ -68,7 +68,7 @@ runs-number (waiting x) = refl
 runs-number (exited n) = refl
 
 module _ (w : List ℕ) (s : State) (a : Agree w s) (v : Form s) (id : ℕ) (one : 1 ≤ id) (le : id ≤ length (s .dispatcher .threads)) where
-  few : id ≤ 256
+  few : id ≤ at.mostThreads
   few = omega (arith, threads-few w s (holderOf (s .dispatcher .objects)) (activeAddress (s .dpcs .table)) a)
 
   pub has-state : (k : ℕ) → hasState w id k ≡ eqb (statusNumber (statusOf (s .dispatcher) id)) k
@@ -93,7 +93,7 @@ module _ (w : List ℕ) (s : State) (a : Agree w s) (v : Form s) (id : ℕ) (one
   exit-none : exitPasses w id ≡ true
   unfolding exitPasses
   exit-none =
-      ap (λ (t : Bool). cond t true (eqb (getD w (at.threadAt id + 5) 0) 0)) (has-state 4)
+      ap (λ (t : Bool). cond t true (eqb (getD w (at.threadAt id + at.status) 0) 0)) (has-state 4)
       ∙ ap (λ (n : ℕ). cond (eqb (statusNumber x) 4) true (eqb n 0)) (thread-word-is w s (holderOf (s .dispatcher .objects)) (activeAddress (s .dpcs .table)) a id one le 5 (exitStatus x) refl)
       ∙ go x
     where
@@ -109,45 +109,45 @@ module _ (w : List ℕ) (s : State) (a : Agree w s) (v : Form s) (id : ℕ) (one
   kept : WaitKept w id
   kept = a .waits .kept id one le
 
-  at-word : (k j : ℕ) → 96 + 160 * id + k ≡ j → getD w (at.threadAt id + k) 0 ≡ getD w j 0
+  at-word : (k j : ℕ) → at.threadFrom id + k ≡ j → getD w (at.threadAt id + k) 0 ≡ getD w j 0
   at-word k j e = ap (λ (p : ℕ). getD w (p + k) 0) (thread-place id few) ∙ ap (λ (p : ℕ). getD w p 0) e
 
-  count-kept : words.countOf w id ≡ getD w (106 + 160 * id) 0
+  count-kept : words.countOf w id ≡ getD w (at.threadWord at.waitCount id) 0
   unfolding words.countOf
-  count-kept = simp (at-word 10 (106 + 160 * id) (omega arith), le-leb (getD w (106 + 160 * id) 0) 64 (kept .count))
+  count-kept = simp (at-word at.waitCount (at.threadWord at.waitCount id) (omega arith), le-leb (getD w (at.threadWord at.waitCount id) 0) 64 (kept .count))
 
   kind-kept : (k : ℕ) → k < 0 + words.countOf w id → kindIn w (words.placesAt id) k ≤ 3
   unfolding kindIn words.placesAt
   kind-kept k h =
-      subst (λ (p : ℕ). getD w p 0 ≤ 3) (let e : 128 + 160 * id + 2 * k ≡ at.threadAt id + 32 + 2 * k = omega (arith, thread-place id few) in e)
+      subst (λ (p : ℕ). getD w p 0 ≤ 3) (let e : at.threadWord at.waitPlaces id + 2 * k ≡ at.threadAt id + at.waitPlaces + 2 * k = omega (arith, thread-place id few) in e)
       (kept .kinds k (omega (arith, count-kept)))
 
   wait-passes : waitPasses w id ≡ true
   unfolding waitPasses
   wait-passes =
       simp (
-        at-word 6 (102 + 160 * id) (omega arith),
-        at-word 7 (103 + 160 * id) (omega arith),
-        at-word 10 (106 + 160 * id) (omega arith),
-        le-ltb 1 (getD w (102 + 160 * id) 0) (kept .all),
-        le-ltb 1 (getD w (103 + 160 * id) 0) (kept .timed),
-        le-ltb 64 (getD w (106 + 160 * id) 0) (kept .count),
+        at-word at.waitAll (at.threadWord at.waitAll id) (omega arith),
+        at-word at.hasDeadline (at.threadWord at.hasDeadline id) (omega arith),
+        at-word at.waitCount (at.threadWord at.waitCount id) (omega arith),
+        le-ltb 1 (getD w (at.threadWord at.waitAll id) 0) (kept .all),
+        le-ltb 1 (getD w (at.threadWord at.hasDeadline id) 0) (kept .timed),
+        le-ltb 64 (getD w (at.threadWord at.waitCount id) 0) (kept .count),
         kinds-pass (words.countOf w id) w (words.placesAt id) 0 kind-kept,
       )
 
   delay-passes : delayPasses w id ≡ true
   unfolding delayPasses
-  delay-passes = ap (λ (t : Bool). cond t (cond (eqb (words.countOf w id) 0) (eqb (getD w (at.threadAt id + 7) 0) 1) true) true) (has-state 3) ∙ go (statusOf (s .dispatcher) id) refl
+  delay-passes = ap (λ (t : Bool). cond t (cond (eqb (words.countOf w id) 0) (eqb (getD w (at.threadAt id + at.hasDeadline) 0) 1) true) true) (has-state 3) ∙ go (statusOf (s .dispatcher) id) refl
     where
       go : (x : Status) → statusOf (s .dispatcher) id ≡ x
-          → cond (eqb (statusNumber (statusOf (s .dispatcher) id)) 3) (cond (eqb (words.countOf w id) 0) (eqb (getD w (at.threadAt id + 7) 0) 1) true) true ≡ true
+          → cond (eqb (statusNumber (statusOf (s .dispatcher) id)) 3) (cond (eqb (words.countOf w id) 0) (eqb (getD w (at.threadAt id + at.hasDeadline) 0) 1) true) true ≡ true
       go running e = simp e
       go ready e = simp e
       go (exited m) e = simp e
       go (waiting x) e =
-          ap (λ (y : Status). cond (eqb (statusNumber y) 3) (cond (eqb (words.countOf w id) 0) (eqb (getD w (at.threadAt id + 7) 0) 1) true) true) e ∙ last (eqb (words.countOf w id) 0) refl
+          ap (λ (y : Status). cond (eqb (statusNumber y) 3) (cond (eqb (words.countOf w id) 0) (eqb (getD w (at.threadAt id + at.hasDeadline) 0) 1) true) true) e ∙ last (eqb (words.countOf w id) 0) refl
         where
-          last : (b : Bool) → eqb (words.countOf w id) 0 ≡ b → cond (eqb (words.countOf w id) 0) (eqb (getD w (at.threadAt id + 7) 0) 1) true ≡ true
+          last : (b : Bool) → eqb (words.countOf w id) 0 ≡ b → cond (eqb (words.countOf w id) 0) (eqb (getD w (at.threadAt id + at.hasDeadline) 0) 1) true ≡ true
           last false q = simp q
           last true q =
               let h = holderOf (s .dispatcher .objects) in
@@ -163,7 +163,7 @@ module _ (w : List ℕ) (s : State) (a : Agree w s) (v : Form s) (id : ℕ) (one
   pub runs-if-current : runsIfCurrent w id ≡ true
   unfolding runsIfCurrent
   runs-if-current =
-      ap (λ (c : ℕ). cond (eqb c id) (hasState w id 1) (not (hasState w id 1))) (a .numbers 6 (s .dispatcher .current) refl)
+      ap (λ (c : ℕ). cond (eqb c id) (hasState w id 1) (not (hasState w id 1))) (a .numbers at.current (s .dispatcher .current) refl)
       ∙ ap (λ (b : Bool). cond (eqb (s .dispatcher .current) id) b (not b)) (has-state 1 ∙ runs-number (statusOf (s .dispatcher) id) ∙ sym (v .sound .standing .current-runs id one))
       ∙ go (eqb (s .dispatcher .current) id) refl
     where

@@ -7,6 +7,7 @@ use native.Mathlib.Omega.{arith}
 use borrow.Author.Tests.{eq-eqb, ne-eqb, eqb-true, eqb-false, leb-true, ltb-false, ltb-true}
 use lib.ListN.{getD}
 use lib.Dec.{eqb, leb, ltb}
+use Rattle.words.specs.Layout as at
 use Rattle.tables.specs.Table.{keyAt}
 use Rattle.images.specs.Place.{architectureOf, backingOf, locationRefusal, timerSize}
 use Rattle.form_dpc.specs.Place.{keyRises, mappedPasses, located}
@@ -51,37 +52,37 @@ rises-form w base i low few e =
 -- ---- a timer
 
 pub record TimerForm (w : List ℕ) (place : ℕ) : Type 0 where
-  pub manual : getD w (place + 2) 0 ≤ 1
-  pub signaled : getD w (place + 3) 0 ≤ 1
-  pub inserted : getD w (place + 5) 0 ≤ 1
-  pub absolute : getD w (place + 9) 0 ≤ 1
-  pub period : getD w (place + 7) 0 ≤ 2147483647
-  pub initialized : 1 ≤ getD w (place + 11) 0
-  pub made : getD w (place + 11) 0 ≤ getD w 19 0
-  pub stands : PlacedAt w place 12 (timerSize (architectureOf (getD w (place + 12) 0)))
+  pub manual : getD w (place + at.manual) 0 ≤ 1
+  pub signaled : getD w (place + at.signaled) 0 ≤ 1
+  pub inserted : getD w (place + at.inserted) 0 ≤ 1
+  pub absolute : getD w (place + at.absolute) 0 ≤ 1
+  pub period : getD w (place + at.period) 0 ≤ 2147483647
+  pub initialized : 1 ≤ getD w (place + at.initialization) 0
+  pub made : getD w (place + at.initialization) 0 ≤ getD w at.timerInitializations 0
+  pub stands : PlacedAt w place 12 (timerSize (architectureOf (getD w (place + at.timerArchitecture) 0)))
 
 module _ (w : List ℕ) (place : ℕ) where
-  flags-form : timerFlags w place ≡ true → (getD w (place + 2) 0 ≤ 1) × (getD w (place + 3) 0 ≤ 1) × (getD w (place + 5) 0 ≤ 1) × (getD w (place + 9) 0 ≤ 1)
+  flags-form : timerFlags w place ≡ true → (getD w (place + at.manual) 0 ≤ 1) × (getD w (place + at.signaled) 0 ≤ 1) × (getD w (place + at.inserted) 0 ≤ 1) × (getD w (place + at.absolute) 0 ≤ 1)
   unfolding timerFlags
   flags-form e =
-      let x = getD w (place + 2) 0 in
-      let y = getD w (place + 3) 0 in
-      let z = getD w (place + 5) 0 in
-      let u = getD w (place + 9) 0 in
+      let x = getD w (place + at.manual) 0 in
+      let y = getD w (place + at.signaled) 0 in
+      let z = getD w (place + at.inserted) 0 in
+      let u = getD w (place + at.absolute) 0 in
       let a = not-first (ltb 1 x) (cond (ltb 1 y) false (cond (ltb 1 z) false (leb u 1))) e in
       let b = not-first (ltb 1 y) (cond (ltb 1 z) false (leb u 1)) (a .1) in
       let c = not-first (ltb 1 z) (leb u 1) (b .1) in
       (ltb-false 1 x (a .0), ltb-false 1 y (b .0), ltb-false 1 z (c .0), leb-true u 1 (c .1))
 
-  times-form : timerTimes w place ≡ true → (getD w (place + 7) 0 ≤ 2147483647) × (1 ≤ getD w (place + 11) 0) × (getD w (place + 11) 0 ≤ getD w 19 0)
+  times-form : timerTimes w place ≡ true → (getD w (place + at.period) 0 ≤ 2147483647) × (1 ≤ getD w (place + at.initialization) 0) × (getD w (place + at.initialization) 0 ≤ getD w at.timerInitializations 0)
   unfolding timerTimes
   times-form e =
-      let x = getD w (place + 7) 0 in
-      let y = getD w (place + 11) 0 in
-      let a = not-first (ltb 2147483647 x) (cond (eqb y 0) false (leb y (getD w 19 0))) e in
-      let b = not-first (eqb y 0) (leb y (getD w 19 0)) (a .1) in
+      let x = getD w (place + at.period) 0 in
+      let y = getD w (place + at.initialization) 0 in
+      let a = not-first (ltb 2147483647 x) (cond (eqb y 0) false (leb y (getD w at.timerInitializations 0))) e in
+      let b = not-first (eqb y 0) (leb y (getD w at.timerInitializations 0)) (a .1) in
       let there = eqb-false y 0 (b .0) in
-      (ltb-false 2147483647 x (a .0), omega (arith, there), leb-true y (getD w 19 0) (b .1))
+      (ltb-false 2147483647 x (a .0), omega (arith, there), leb-true y (getD w at.timerInitializations 0) (b .1))
 
   pub timer-form : timerNumbers w place ≡ true → TimerForm w place
   unfolding timerNumbers timerPlaced
@@ -98,5 +99,5 @@ module _ (w : List ℕ) (place : ℕ) where
         period = t .0;
         initialized = t .1;
         made = t .2;
-        stands = located-form w place 12 (timerSize (architectureOf (getD w (place + 12) 0))) (b .1);
+        stands = located-form w place 12 (timerSize (architectureOf (getD w (place + at.timerArchitecture) 0))) (b .1);
       }

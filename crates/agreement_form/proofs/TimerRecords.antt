@@ -9,6 +9,7 @@ use native.Mathlib.Omega.{arith}
 use borrow.Author.Tests.{eq-eqb, ne-eqb, le-leb, le-ltb, eqb-true, eqb-false}
 use lib.ListN.{getD}
 use lib.Dec.{eqb}
+use Rattle.words.specs.Layout as at
 use Rattle.images.specs.declared.Timer.{Timer}
 use Rattle.images.specs.declared.Dpc.{Dpc}
 use Rattle.images.specs.Place.{architectureNumber, architectureOf, backingKind, backingBase, backingSize, backingMapped, timerSize}
@@ -39,7 +40,7 @@ flag-few true = omega arith
 flag-few false = omega arith
 
 -- word 0 of a row
-pub first-word : (w : List ℕ) (place n : ℕ) → getD w (place + 0) 0 ≡ n → getD w place 0 ≡ n
+pub first-word : (w : List ℕ) (place n : ℕ) → getD w (place + at.key) 0 ≡ n → getD w place 0 ≡ n
 first-word w place n e = ap (λ (p : ℕ). getD w p 0) (let z : place ≡ place + 0 = omega arith in z) ∙ e
 
 -- ---- numbers
@@ -59,7 +60,7 @@ module _ (w : List ℕ) (place : ℕ) (t : Timer) (r : Row w place (timerRow t))
         le-leb (flag (t .absolute)) 1 (flag-few (t .absolute)),
       )
 
-  times-pass : (made : ℕ) → getD w 19 0 ≡ made → TimerFits made (timer t) → timerTimes w place ≡ true
+  times-pass : (made : ℕ) → getD w at.timerInitializations 0 ≡ made → TimerFits made (timer t) → timerTimes w place ≡ true
   unfolding timerTimes
   times-pass made e h =
       simp (
@@ -80,7 +81,7 @@ module _ (w : List ℕ) (place : ℕ) (t : Timer) (r : Row w place (timerRow t))
       (r 12 (architectureNumber (t .architecture)) refl) (r 13 (backingKind (t .backing)) refl) (r 14 (backingBase (t .backing)) refl)
       (r 15 (backingSize (t .backing)) refl) (r 16 (backingMapped (t .backing)) refl) h
 
-  pub timer-numbers : (made : ℕ) → getD w 19 0 ≡ made → TimerFits made (timer t) → Placed (timer t) → timerNumbers w place ≡ true
+  pub timer-numbers : (made : ℕ) → getD w at.timerInitializations 0 ≡ made → TimerFits made (timer t) → Placed (timer t) → timerNumbers w place ≡ true
   unfolding timerNumbers
   timer-numbers made e h p = simp (flags-pass, times-pass made e h, placed-passes p)
 

@@ -4,6 +4,7 @@ use mathlib.Core.List.{List}
 use mathlib.Core.Path.{_≡_, refl, sym, ap, subst}
 use native.Mathlib.Omega.{arith}
 use lib.ListN.{getD}
+use Rattle.words.specs.Layout as at
 use Rattle.model.specs.Dpcs.{addressOf}
 use Rattle.agreement.specs.Row.{Row}
 use Rattle.agreement_tables.specs.Tables.{below}
@@ -22,24 +23,24 @@ use Rattle.agreement_form.proofs.Parts.{Parts}
 
 -- word 3 of the record with an address
 abbrev pub told : List ℕ → ℕ → ℕ
-told w a = getD w (dpcsFrom (limitsOf w) + 32 * below addressOf a (tableOf w) + 3) 0
+told w a = getD w (dpcsFrom (limitsOf w) + 32 * below addressOf a (tableOf w) + at.namedBy) 0
 
 module _ (w : List ℕ) (words : Words w) (p : Parts w) where
   -- the record of the i-th DPC
-  pub told-is : (i : ℕ) → i < getD w 5 0 → getD w (dpcsFrom (limitsOf w) + 32 * i + 3) 0 ≡ told w (dpcOf w i .address)
+  pub told-is : (i : ℕ) → i < getD w at.dpcs 0 → getD w (dpcsFrom (limitsOf w) + 32 * i + at.namedBy) 0 ≡ told w (dpcOf w i .address)
   told-is i h =
-      ap (λ (j : ℕ). getD w (dpcsFrom (limitsOf w) + 32 * j + 3) 0)
+      ap (λ (j : ℕ). getD w (dpcsFrom (limitsOf w) + 32 * j + at.namedBy) 0)
       (sym (below-nth addressOf (tableOf w) (dpcs-rise w (p .dpcs)) i (dpcOf w i) (record-at w (p .dpcs) (p .queue) i h)))
 
   pub shape : ShapeOf (decoded w)
   shape =
-      let threads = length-each (threadBy w) (getD w 3 0) 1 in
+      let threads = length-each (threadBy w) (getD w at.threads 0) 1 in
       record {
         sizes = record {
           limits = p .header .limits;
           threads-fit = omega (arith, threads, p .header .threads-fit);
-          objects-fit = omega (arith, length-each (objectOf w) (getD w 4 0) 0, p .header .objects-fit);
-          dpcs-fit = omega (arith, length-each (dpcOf w) (getD w 5 0) 0, p .header .dpcs-fit);
+          objects-fit = omega (arith, length-each (objectOf w) (getD w at.objects 0) 0, p .header .objects-fit);
+          dpcs-fit = omega (arith, length-each (dpcOf w) (getD w at.dpcs 0) 0, p .header .dpcs-fit);
         };
         fit = threads-fit w (p .threads);
         ready-standing = subst (λ (n : ℕ). Standing n (decoded w .dispatcher .placed)) (sym threads) (p .ready .standing);
@@ -50,7 +51,7 @@ module _ (w : List ℕ) (words : Words w) (p : Parts w) where
         counted = omega (arith, words 14);
       }
 
-  pub agreeing : (holder : ℕ → ℕ) (active : ℕ) → ((i : ℕ) → i < getD w 5 0 → getD w (dpcsFrom (limitsOf w) + 32 * i + 3) 0 ≡ holder (dpcOf w i .address)) → getD w 25 0 ≡ active
+  pub agreeing : (holder : ℕ → ℕ) (active : ℕ) → ((i : ℕ) → i < getD w at.dpcs 0 → getD w (dpcsFrom (limitsOf w) + 32 * i + at.namedBy) 0 ≡ holder (dpcOf w i .address)) → getD w at.active 0 ≡ active
       → Agreeing w (decoded w) holder active
   agreeing holder active h e =
       record {
@@ -66,5 +67,5 @@ module _ (w : List ℕ) (words : Words w) (p : Parts w) where
         shape = shape;
       }
 
-  pub agreeing-told : Agreeing w (decoded w) (told w) (getD w 25 0)
-  agreeing-told = agreeing (told w) (getD w 25 0) told-is refl
+  pub agreeing-told : Agreeing w (decoded w) (told w) (getD w at.active 0)
+  agreeing-told = agreeing (told w) (getD w at.active 0) told-is refl

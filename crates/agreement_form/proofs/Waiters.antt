@@ -8,6 +8,7 @@ use native.Mathlib.Omega.{arith}
 use borrow.Author.Tests.{eq-eqb, ne-eqb, lt-leb, le-leb}
 use lib.ListN.{getD, length}
 use lib.Dec.{eqb, leb}
+use Rattle.words.specs.Layout as at
 use Rattle.words.specs.Layout.{threadAt}
 use Rattle.chains.specs.Chain.{linkAt, firstOf, nextOf}
 use Rattle.chains.specs.Ready.{waitersChain}
@@ -102,15 +103,15 @@ module _ (w : List ℕ) (s : State) (a : Agree w s) (v : Form s) where
   unfolding sequenceAt
   sequence-of i m = go (is-waiting (statusOf (s .dispatcher) i) (waiter-waits i m))
     where
-      go : ((y : Wait) × (statusOf (s .dispatcher) i ≡ waiting y)) → cond (eqb i 0) (getD w 7 0) (getD w (threadAt i + 9) 0) ≡ model-valid.sequenceAt threads i
+      go : ((y : Wait) × (statusOf (s .dispatcher) i ≡ waiting y)) → cond (eqb i 0) (getD w at.sequence 0) (getD w (threadAt i + at.waitSequence) 0) ≡ model-valid.sequenceAt threads i
       go (y, e) =
-          ap (λ (b : Bool). cond b (getD w 7 0) (getD w (threadAt i + 9) 0)) (ne-eqb i 0 (λ q. omega (arith, q, waiter i m .0)))
+          ap (λ (b : Bool). cond b (getD w at.sequence 0) (getD w (threadAt i + at.waitSequence) 0)) (ne-eqb i 0 (λ q. omega (arith, q, waiter i m .0)))
           ∙ sequence-is w s (holderOf (s .dispatcher .objects)) (activeAddress (s .dpcs .table)) a i (waiter i m .0) (waiter i m .1) y e
           ∙ ap (λ (x : Status). waitOf x .sequence) (sym e)
 
   next-sequence : sequenceAt w 0 ≡ s .dispatcher .sequence
   unfolding sequenceAt
-  next-sequence = a .numbers 7 (s .dispatcher .sequence) refl
+  next-sequence = a .numbers at.sequence (s .dispatcher .sequence) refl
 
   rises : (k b : ℕ) (xs : List ℕ) → Linked w waitersChain b xs → ((y : ℕ) → Mem y xs → Mem y (s .dispatcher .waiters))
       → RisingBy (model-valid.sequenceAt threads) xs → length xs < k → sequencesIn k w (getD w (linkAt waitersChain b) 0) ≡ true

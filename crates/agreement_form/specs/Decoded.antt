@@ -5,6 +5,7 @@ use mathlib.Core.Bool.{cond, not}
 use mathlib.Core.Option.{Option, none, some}
 use lib.ListN.{getD}
 use lib.Dec.{eqb}
+use Rattle.words.specs.Layout as at
 use Rattle.images.specs.declared.Dpc.{Dpc}
 use Rattle.chains.specs.declared.Chain.{Chain}
 use Rattle.chains.specs.Chain.{firstOf, nextOf}
@@ -23,7 +24,7 @@ module _ {A : Type 0} (f : ℕ → A) where
 
 module _ (w : List ℕ) where
   abbrev pub limitsOf : Limits
-  limitsOf = record { threads = getD w 0 0; objects = getD w 1 0; dpcs = getD w 2 0 }
+  limitsOf = record { threads = getD w at.threadLimit 0; objects = getD w at.objectLimit 0; dpcs = getD w at.dpcLimit 0 }
 
   -- ---- threads
 
@@ -31,29 +32,29 @@ module _ (w : List ℕ) where
   namedAt place k = record { kind = getD w (place + 2 * k) 0; key = getD w (place + (2 * k + 1)) 0 }
 
   abbrev pub deadlineAt : ℕ → Option ℕ
-  deadlineAt i = cond (eqb (getD w (103 + 160 * i) 0) 0) none (some (getD w (104 + 160 * i) 0))
+  deadlineAt i = cond (eqb (getD w (at.threadWord at.hasDeadline i) 0) 0) none (some (getD w (at.threadWord at.deadline i) 0))
 
   abbrev pub waitAt : ℕ → Wait
   waitAt i =
       record {
-        objects = each (namedAt (128 + 160 * i)) (getD w (106 + 160 * i) 0) 0;
-        all = not (eqb (getD w (102 + 160 * i) 0) 0);
+        objects = each (namedAt (at.threadWord at.waitPlaces i)) (getD w (at.threadWord at.waitCount i) 0) 0;
+        all = not (eqb (getD w (at.threadWord at.waitAll i) 0) 0);
         deadline = deadlineAt i;
-        sequence = getD w (105 + 160 * i) 0;
+        sequence = getD w (at.threadWord at.waitSequence i) 0;
       }
 
   -- a state that is none of the first three is exited
   abbrev pub statusBy : ℕ → ℕ → Status
-  statusBy i n = cond (eqb n 1) running (cond (eqb n 2) ready (cond (eqb n 3) (waiting (waitAt i)) (exited (getD w (101 + 160 * i) 0))))
+  statusBy i n = cond (eqb n 1) running (cond (eqb n 2) ready (cond (eqb n 3) (waiting (waitAt i)) (exited (getD w (at.threadWord at.status i) 0))))
 
   abbrev pub resultBy : ℕ → Option WaitResult
   resultBy n = cond (eqb n 0) none (cond (eqb n 1) (some timeout) (some (satisfied (n - 2))))
 
   abbrev pub threadBy : ℕ → Thread
-  threadBy i = record { priority = getD w (96 + 160 * i) 0; status = statusBy i (getD w (97 + 160 * i) 0); result = resultBy (getD w (100 + 160 * i) 0) }
+  threadBy i = record { priority = getD w (at.threadFrom i) 0; status = statusBy i (getD w (at.threadWord at.state i) 0); result = resultBy (getD w (at.threadWord at.result i) 0) }
 
   abbrev pub threadsOf : List Thread
-  threadsOf = each threadBy (getD w 3 0) 1
+  threadsOf = each threadBy (getD w at.threads 0) 1
 
   -- ---- chains
 
@@ -75,21 +76,21 @@ module _ (w : List ℕ) where
   -- a kind that is neither a mutex nor an event is a timer
   abbrev pub objectBy : ℕ → ℕ → Object
   objectBy place kind =
-      cond (eqb kind 0) (mutex (record { key = getD w place 0; owner = getD w (place + 4) 0 }))
-      (cond (eqb kind 1) (event (record { key = getD w place 0; manual = not (eqb (getD w (place + 2) 0) 0); signaled = not (eqb (getD w (place + 3) 0) 0) }))
+      cond (eqb kind 0) (mutex (record { key = getD w place 0; owner = getD w (place + at.owner) 0 }))
+      (cond (eqb kind 1) (event (record { key = getD w place 0; manual = not (eqb (getD w (place + at.manual) 0) 0); signaled = not (eqb (getD w (place + at.signaled) 0) 0) }))
       (timer (timerAt w place)))
 
   abbrev pub objectOf : ℕ → Object
-  objectOf i = objectBy (objectsFrom limitsOf + 32 * i) (getD w (objectsFrom limitsOf + 32 * i + 1) 0)
+  objectOf i = objectBy (objectsFrom limitsOf + 32 * i) (getD w (objectsFrom limitsOf + 32 * i + at.kind) 0)
 
   abbrev pub objectsOf : List Object
-  objectsOf = each objectOf (getD w 4 0) 0
+  objectsOf = each objectOf (getD w at.objects 0) 0
 
   abbrev pub dpcOf : ℕ → Dpc
   dpcOf i = dpcAt w (dpcsFrom limitsOf + 32 * i)
 
   abbrev pub tableOf : List Dpc
-  tableOf = each dpcOf (getD w 5 0) 0
+  tableOf = each dpcOf (getD w at.dpcs 0) 0
 
   -- DPC `n` has record `n - 1`
   abbrev pub addressAt : ℕ → ℕ
@@ -101,20 +102,20 @@ module _ (w : List ℕ) where
   -- ---- all of it
 
   abbrev pub policyBy : ℕ → Policy
-  policyBy n = cond (eqb n 0) unselected (cpu0Dispatch (getD w 11 0) (getD w 12 0))
+  policyBy n = cond (eqb n 0) unselected (cpu0Dispatch (getD w at.timerArgument 0) (getD w at.timerArgument2 0))
 
   abbrev pub countersOf : Counters
-  countersOf = record { accepted = getD w 13 0; duplicates = getD w 14 0; removed = getD w 15 0; started = getD w 16 0; returned = getD w 17 0; restored = getD w 18 0 }
+  countersOf = record { accepted = getD w at.accepted 0; duplicates = getD w at.duplicates 0; removed = getD w at.removed 0; started = getD w at.started 0; returned = getD w at.returned 0; restored = getD w at.restored 0 }
 
   -- the ready threads by priority, the highest first, and in each priority by its queue
   abbrev pub dispatcherOf : Dispatcher
   dispatcherOf =
       record {
         threads = threadsOf;
-        current = getD w 6 0;
+        current = getD w at.current 0;
         placed = readyTo 31;
         waiters = chainOf 4096 waitersChain;
-        sequence = getD w 7 0;
+        sequence = getD w at.sequence 0;
         objects = objectsOf;
       }
 
@@ -127,8 +128,8 @@ module _ (w : List ℕ) where
         limits = limitsOf;
         dispatcher = dispatcherOf;
         dpcs = dpcsOf;
-        now = getD w 8 0;
-        policy = policyBy (getD w 10 0);
-        timerInitializations = getD w 19 0;
-        dpcInitializations = getD w 20 0;
+        now = getD w at.now 0;
+        policy = policyBy (getD w at.policy 0);
+        timerInitializations = getD w at.timerInitializations 0;
+        dpcInitializations = getD w at.dpcInitializations 0;
       }

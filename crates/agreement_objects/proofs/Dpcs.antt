@@ -8,6 +8,7 @@ use native.Mathlib.Omega.{arith}
 use borrow.Author.Tests.{eqb-true}
 use lib.ListN.{getD, set, length}
 use lib.Dec.{eqb, leb, ltb}
+use Rattle.words.specs.Layout as at
 use Rattle.arch.specs.declared.Architecture.{Architecture}
 use Rattle.images.specs.declared.Dpc.{Dpc}
 use Rattle.images.specs.declared.DpcPhase.{DpcPhase}
@@ -90,9 +91,9 @@ module _ (w : List ℕ) (s : State) (a : Agree w s) (v : Valid s) where
   dpc-full : (address : ℕ) → code.dpcFull w address ≡ cond (present (dpcAt (s .dpcs .table) address)) false (leb (s .limits .dpcs) (length (s .dpcs .table)))
   unfolding code.dpcFull
   dpc-full address =
-      ap (λ (b : Bool). cond b (leb (getD w 2 0) (getD w 5 0)) false) (dpc-known w s hold act a address)
-      ∙ ap (λ (n : ℕ). cond (not (present (dpcAt (s .dpcs .table) address))) (leb n (getD w 5 0)) false) (a .numbers 2 (s .limits .dpcs) refl)
-      ∙ ap (λ (n : ℕ). cond (not (present (dpcAt (s .dpcs .table) address))) (leb (s .limits .dpcs) n) false) (a .numbers 5 (length (s .dpcs .table)) refl)
+      ap (λ (b : Bool). cond b (leb (getD w at.dpcLimit 0) (getD w at.dpcs 0)) false) (dpc-known w s hold act a address)
+      ∙ ap (λ (n : ℕ). cond (not (present (dpcAt (s .dpcs .table) address))) (leb n (getD w at.dpcs 0)) false) (a .numbers at.dpcLimit (s .limits .dpcs) refl)
+      ∙ ap (λ (n : ℕ). cond (not (present (dpcAt (s .dpcs .table) address))) (leb (s .limits .dpcs) n) false) (a .numbers at.dpcs (length (s .dpcs .table)) refl)
       ∙ go (present (dpcAt (s .dpcs .table) address)) (leb (s .limits .dpcs) (length (s .dpcs .table)))
     where
       go : (b c : Bool) → cond (not b) c false ≡ cond b false c
@@ -102,12 +103,12 @@ module _ (w : List ℕ) (s : State) (a : Agree w s) (v : Valid s) where
   pub dpc-refusal : (address : ℕ) (arch : Architecture) (b : TimerBacking) → code.dpcRefusal w address arch b ≡ dpcRefusal s address arch b
   unfolding code.dpcRefusal dpcRefusal
   dpc-refusal address arch b =
-      ap (λ (x : Bool). cond x (cond (code.dpcFull w address) 4 (cond (leb 65536 (getD w 20 0)) 14 (cond (busy w address) 19 (cond (named.isNamed w address) 19 (code.placeRefusal w address (dpcSize arch) arch b))))) 5) (object-known w s hold act a address)
-      ∙ go (present (objectAt (s .dispatcher .objects) address)) (cond (code.dpcFull w address) 4 (cond (leb 65536 (getD w 20 0)) 14 (cond (busy w address) 19 (cond (named.isNamed w address) 19 (code.placeRefusal w address (dpcSize arch) arch b)))))
+      ap (λ (x : Bool). cond x (cond (code.dpcFull w address) 4 (cond (leb 65536 (getD w at.dpcInitializations 0)) 14 (cond (busy w address) 19 (cond (named.isNamed w address) 19 (code.placeRefusal w address (dpcSize arch) arch b))))) 5) (object-known w s hold act a address)
+      ∙ go (present (objectAt (s .dispatcher .objects) address)) (cond (code.dpcFull w address) 4 (cond (leb 65536 (getD w at.dpcInitializations 0)) 14 (cond (busy w address) 19 (cond (named.isNamed w address) 19 (code.placeRefusal w address (dpcSize arch) arch b)))))
       ∙ ap (λ (n : ℕ). cond (present (objectAt (s .dispatcher .objects) address)) 5 n)
-      (ap (λ (x : Bool). cond x 4 (cond (leb 65536 (getD w 20 0)) 14 (cond (busy w address) 19 (cond (named.isNamed w address) 19 (code.placeRefusal w address (dpcSize arch) arch b))))) (dpc-full address)
+      (ap (λ (x : Bool). cond x 4 (cond (leb 65536 (getD w at.dpcInitializations 0)) 14 (cond (busy w address) 19 (cond (named.isNamed w address) 19 (code.placeRefusal w address (dpcSize arch) arch b))))) (dpc-full address)
       ∙ ap (λ (n : ℕ). cond full 4 n)
-      (ap (λ (n : ℕ). cond (leb 65536 n) 14 (cond (busy w address) 19 (cond (named.isNamed w address) 19 (code.placeRefusal w address (dpcSize arch) arch b)))) (a .numbers 20 (s .dpcInitializations) refl)
+      (ap (λ (n : ℕ). cond (leb 65536 n) 14 (cond (busy w address) 19 (cond (named.isNamed w address) 19 (code.placeRefusal w address (dpcSize arch) arch b)))) (a .numbers at.dpcInitializations (s .dpcInitializations) refl)
       ∙ ap (λ (n : ℕ). cond (leb 65536 (s .dpcInitializations)) 14 n)
       (ap (λ (x : Bool). cond x 19 (cond (named.isNamed w address) 19 (code.placeRefusal w address (dpcSize arch) arch b))) (busy-is w s _ _ a address)
       ∙ ap (λ (x : Bool). cond (isBusy (phaseAt (s .dpcs .table) address)) 19 (cond x 19 (code.placeRefusal w address (dpcSize arch) arch b))) (named-is w s a v address)
@@ -127,7 +128,7 @@ module _ (w : List ℕ) (s : State) (a : Agree w s) (v : Valid s) where
   unfolding code.dpcInitialized code.newDpc refusal effect dpcInitialized dpcRefusal placeRefusal
   agree-initialize-dpc address arch b routine context =
       plainly-unless w s a (call.InitializeDpc address arch b routine context) (code.dpcRefusal w address arch b)
-      (outcome answer.Done (set (entered w address (code.newDpc arch b routine context)) 20 (getD w 20 0 + 1))) (dpc-refusal address arch b)
+      (outcome answer.Done (set (entered w address (code.newDpc arch b routine context)) 20 (getD w at.dpcInitializations 0 + 1))) (dpc-refusal address arch b)
       (λ e. let r₁ = passes (present (objectAt (s .dispatcher .objects) address)) 4 _ e in
       let r₂ = passes (cond (present (dpcAt (s .dpcs .table) address)) false (leb (s .limits .dpcs) (length (s .dpcs .table)))) 3 _ (r₁ .1) in
       let r₃ = passes (leb lifetime (s .dpcInitializations)) 13 _ (r₂ .1) in
@@ -144,9 +145,9 @@ module _ (w : List ℕ) (s : State) (a : Agree w s) (v : Valid s) where
       x = record { address = address; architecture = arch; backing = b; routine = routine; context = context; phase = Idle }
 
       after : length (putDpc x (s .dpcs .table)) ≤ s .limits .dpcs → isBusy (phaseAt (s .dpcs .table) address) ≡ false → isNamed (s .dispatcher .objects) address ≡ false → (address ≡ 0 → ⊥)
-          → Agree (set (entered w address (code.newDpc arch b routine context)) 20 (getD w 20 0 + 1)) (dpcInitialized s address arch b routine context)
+          → Agree (set (entered w address (code.newDpc arch b routine context)) 20 (getD w at.dpcInitializations 0 + 1)) (dpcInitialized s address arch b routine context)
       after room idle unnamed some-where =
-          subst (λ (k : ℕ). Agree (set (entered w address (code.newDpc arch b routine context)) 20 (k + 1)) (dpcInitialized s address arch b routine context)) (sym (a .numbers 20 (s .dpcInitializations) refl))
+          subst (λ (k : ℕ). Agree (set (entered w address (code.newDpc arch b routine context)) 20 (k + 1)) (dpcInitialized s address arch b routine context)) (sym (a .numbers at.dpcInitializations (s .dpcInitializations) refl))
           (subst (λ (k : ℕ). Agreeing (set (entered w address (code.newDpc arch b routine context)) 20 (s .dpcInitializations + 1)) (dpcInitialized s address arch b routine context) hold k) (sym active)
           (sim-dpcs-made (entered w address (code.newDpc arch b routine context)) (withDpcs s (record { table = putDpc x (s .dpcs .table); queue = s .dpcs .queue; counters = s .dpcs .counters })) hold act
           (sim-enter-dpc w s hold act a x (code.newDpc arch b routine context) room some-where (holder-none (s .dispatcher .objects) address unnamed) out refl) (s .dpcInitializations + 1)))

@@ -8,6 +8,7 @@ use native.Mathlib.Omega.{arith}
 use borrow.Author.Tests.{eq-eqb}
 use lib.ListN.{getD, length}
 use lib.Dec.{eqb}
+use Rattle.words.specs.Layout as at
 use Rattle.objects.specs.declared.Object as stored
 use Rattle.objects.specs.Objects.{entered, objectsBase, placeOf}
 use Rattle.model.specs.Lists.{nth, given}
@@ -47,7 +48,7 @@ five-row w place key o h (suc (suc (suc (suc (suc k))))) n e = absurd (none-some
 object-local : Local Whole (λ (w : List ℕ) (place : ℕ) (x : Object). Row w place (objectRow x))
 object-local = row-local Whole objectRow (λ x k n e. (omega (arith, says-short (objectRow x) k n e, object-short x), tt))
 
-kind-local : Local Whole (λ (w : List ℕ) (place : ℕ) (x : Object). getD w (place + 1) 0 ≡ kindOf x)
+kind-local : Local Whole (λ (w : List ℕ) (place : ℕ) (x : Object). getD w (place + at.kind) 0 ≡ kindOf x)
 kind-local w w′ p q x c h = c 1 (omega arith) tt ∙ h
 
 module _ (w : List ℕ) (s : State) (holder : ℕ → ℕ) (active : ℕ) (a : Agreeing w s holder active) (x : Object) (o : stored.Object)
@@ -73,8 +74,8 @@ module _ (w : List ℕ) (s : State) (holder : ℕ → ℕ) (active : ℕ) (a : A
 
   -- ---- the words after it is entered
 
-  count-word : getD w 4 0 ≡ length (s .dispatcher .objects)
-  count-word = a .numbers 4 (length (s .dispatcher .objects)) refl
+  count-word : getD w at.objects 0 ≡ length (s .dispatcher .objects)
+  count-word = a .numbers at.objects (length (s .dispatcher .objects)) refl
 
   pub length-entered : length (entered w (keyOf x) o) ≡ length w
   length-entered =
@@ -85,7 +86,7 @@ module _ (w : List ℕ) (s : State) (holder : ℕ → ℕ) (active : ℕ) (a : A
       rows.entered-outside keyOf w (objectsFrom (s .limits)) (s .dispatcher .objects) low (omega arith) (base-is w s holder active a) count-word (a .shape .rising) (object-keys w s holder active a) x o few long
       (Elsewhere w s holder active a) (λ r. r .no-count refl) (λ p h l r. r .no-object (omega arith) (omega (arith, room)))
 
-  entered-count : getD (entered w (keyOf x) o) 4 0 ≡ length (putObject x (s .dispatcher .objects))
+  entered-count : getD (entered w (keyOf x) o) at.objects 0 ≡ length (putObject x (s .dispatcher .objects))
   entered-count =
       rows.entered-count keyOf w (objectsFrom (s .limits)) (s .dispatcher .objects) low (omega arith) (base-is w s holder active a) count-word (a .shape .rising) (object-keys w s holder active a) x o few long
 
@@ -133,7 +134,7 @@ module _ (w : List ℕ) (s : State) (holder : ℕ → ℕ) (active : ℕ) (a : A
   base-still : objectsBase (entered w (keyOf x) o) ≡ objectsFrom (s .limits)
   base-still =
       tables.objects-base (entered w (keyOf x) o) (s .limits .threads)
-      (entered-else 0 (record { no-count = λ e. omega arith; no-object = λ p q. omega arith }) ∙ a .numbers 0 (s .limits .threads) refl) (a .shape .sizes .limits .threads)
+      (entered-else 0 (record { no-count = λ e. omega arith; no-object = λ p q. omega arith }) ∙ a .numbers at.threadLimit (s .limits .threads) refl) (a .shape .sizes .limits .threads)
 
   pub entered-place : o .kind ≡ kindOf x → placeOf (entered w (keyOf x) o) (kindOf x) (keyOf x) ≡ objectsFrom (s .limits) + 32 * below keyOf (keyOf x) (s .dispatcher .objects)
   entered-place e =
@@ -155,8 +156,8 @@ module _ (w : List ℕ) (s : State) (holder : ℕ → ℕ) (active : ℕ) (a : A
           (ap (λ (p : ℕ). getD (entered w (keyOf x) o) p 0) (let z : objectsFrom (s .limits) + 32 * below keyOf (keyOf x) (s .dispatcher .objects) ≡ objectsFrom (s .limits) + 32 * below keyOf (keyOf x) (s .dispatcher .objects) + 0 = omega arith in z)
           ∙ entered-row 0 (keyOf x) refl)
 
-      kinds : (i : ℕ) (y : Object) → nth (putObject x (s .dispatcher .objects)) i ≡ some y → getD (entered w (keyOf x) o) (objectsFrom (s .limits) + 32 * i + 1) 0 ≡ kindOf y
+      kinds : (i : ℕ) (y : Object) → nth (putObject x (s .dispatcher .objects)) i ≡ some y → getD (entered w (keyOf x) o) (objectsFrom (s .limits) + 32 * i + at.kind) 0 ≡ kindOf y
       kinds =
           rows.entered-holds keyOf w (objectsFrom (s .limits)) (s .dispatcher .objects) low (omega arith) (base-is w s holder active a) count-word (a .shape .rising) (object-keys w s holder active a) x o few long
-          Whole (λ v p y. getD v (p + 1) 0 ≡ kindOf y) kind-local (object-kinds w s holder active a) (entered w (keyOf x) o) (λ j h n k m d. refl)
+          Whole (λ v p y. getD v (p + at.kind) 0 ≡ kindOf y) kind-local (object-kinds w s holder active a) (entered w (keyOf x) o) (λ j h n k m d. refl)
           (entered-row 1 (o .kind) refl ∙ e)

@@ -8,6 +8,7 @@ use mathlib.Core.Path.{_≡_, refl, sym, ap, _∙_, subst}
 use native.Mathlib.Omega.{arith}
 use native.Mathlib.Decide.{ℕ-discrete}
 use lib.ListN.{getD, length}
+use Rattle.words.specs.Layout as at
 use Rattle.chains.specs.declared.Chain.{Chain}
 use Rattle.chains.specs.Chain.{linkAt}
 use Rattle.images.specs.declared.Dpc.{Dpc}
@@ -50,8 +51,8 @@ module _ (w : List ℕ) (s : State) (holder : ℕ → ℕ) (active : ℕ) (a : A
   long : dpcsFrom (s .limits) + 32 * length (putDpc x (s .dpcs .table)) ≤ length w
   long = omega (arith, room, a .enough)
 
-  count-word : getD w 5 0 ≡ length (s .dpcs .table)
-  count-word = a .numbers 5 (length (s .dpcs .table)) refl
+  count-word : getD w at.dpcs 0 ≡ length (s .dpcs .table)
+  count-word = a .numbers at.dpcs (length (s .dpcs .table)) refl
 
   rising : Rising addressOf (s .dpcs .table)
   rising = a .shape .dpcs .rising

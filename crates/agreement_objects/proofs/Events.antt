@@ -8,6 +8,7 @@ use native.Mathlib.Omega.{arith}
 use borrow.Author.Tests.{ne-eqb}
 use lib.ListN.{getD, length}
 use lib.Dec.{eqb}
+use Rattle.words.specs.Layout as at
 use Rattle.words.specs.Layout.{entryAt}
 use Rattle.objects.specs.Objects as objects
 use Rattle.objects.specs.Objects.{entered, placeOf, objectsBase}
@@ -49,9 +50,9 @@ use Rattle.agreement_objects.proofs.Plain.{no-timer, agree-enter}
 pub state-read : (w : List ℕ) (place : ℕ) (x : Event) → Row w place (objectRow (event x)) → (place ≡ 0 → ⊥) → told (stateAt w place) ≡ EventIs x
 unfolding stateAt
 state-read w place x r some-place =
-    ap (λ (b : Bool). told (cond b answer.None (answer.Event (getD w (place + 0) 0) (not (eqb (getD w (place + 2) 0) 0)) (not (eqb (getD w (place + 3) 0) 0))))) (ne-eqb place 0 some-place)
-    ∙ ap (λ (k : ℕ). EventIs (record { key = k; manual = not (eqb (getD w (place + 2) 0) 0); signaled = not (eqb (getD w (place + 3) 0) 0) })) (r 0 (x .key) refl)
-    ∙ ap (λ (b : Bool). EventIs (record { key = x .key; manual = b; signaled = not (eqb (getD w (place + 3) 0) 0) })) (ap (λ (n : ℕ). not (eqb n 0)) (r 2 (flag (x .manual)) refl) ∙ flag-read (x .manual))
+    ap (λ (b : Bool). told (cond b answer.None (answer.Event (getD w (place + at.key) 0) (not (eqb (getD w (place + at.manual) 0) 0)) (not (eqb (getD w (place + at.signaled) 0) 0))))) (ne-eqb place 0 some-place)
+    ∙ ap (λ (k : ℕ). EventIs (record { key = k; manual = not (eqb (getD w (place + at.manual) 0) 0); signaled = not (eqb (getD w (place + at.signaled) 0) 0) })) (r 0 (x .key) refl)
+    ∙ ap (λ (b : Bool). EventIs (record { key = x .key; manual = b; signaled = not (eqb (getD w (place + at.signaled) 0) 0) })) (ap (λ (n : ℕ). not (eqb n 0)) (r 2 (flag (x .manual)) refl) ∙ flag-read (x .manual))
     ∙ ap (λ (b : Bool). EventIs (record { key = x .key; manual = x .manual; signaled = b })) (ap (λ (n : ℕ). not (eqb n 0)) (r 3 (flag (x .signaled)) refl) ∙ flag-read (x .signaled))
 
 -- ---- the event at a position, of records from record `i` on
@@ -66,10 +67,10 @@ unfolding nthIn isNth passedTo
 nth-event m w base i n e =
     ap (λ (b : Bool). cond (cond b (eqb n 0) false) (entryAt base i) (nthIn m w base (i + 1) (cond b (n - 1) n))) e
 
-module _ (w : List ℕ) (base : ℕ) (low : base ≤ 1000000) (high : 256 ≤ base) where
+module _ (w : List ℕ) (base : ℕ) (low : base ≤ 1000000) (high : at.headerSize ≤ base) where
   event-at : (i : ℕ) (x : Object) → i ≤ 8192 → Row w (base + 32 * i) (objectRow x) → isEvent w (entryAt base i) ≡ eqb (kindOf x) 1
   unfolding isEvent
-  event-at i x h r = ap (λ (p : ℕ). eqb (getD w (p + 1) 0) 1) (entry-place base i low h) ∙ ap (λ (k : ℕ). eqb k 1) (r 1 (kindOf x) (go x))
+  event-at i x h r = ap (λ (p : ℕ). eqb (getD w (p + at.kind) 0) 1) (entry-place base i low h) ∙ ap (λ (k : ℕ). eqb k 1) (r 1 (kindOf x) (go x))
     where
       go : (x : Object) → getD (objectRow x) 1 none ≡ some (kindOf x)
       go (mutex m) = refl
@@ -119,7 +120,7 @@ module _ (w : List ℕ) (s : State) (a : Agree w s) where
     where
       go : (r : Option Event) → eventAt (s .dispatcher .objects) key ≡ r → told (stateAt w (placeOf w 1 key)) ≡ given (eventAt (s .dispatcher .objects) key) None EventIs
       go none q =
-          ap (λ (b : Bool). told (cond b answer.None (answer.Event (getD w (placeOf w 1 key + 0) 0) (not (eqb (getD w (placeOf w 1 key + 2) 0) 0)) (not (eqb (getD w (placeOf w 1 key + 3) 0) 0)))))
+          ap (λ (b : Bool). told (cond b answer.None (answer.Event (getD w (placeOf w 1 key + at.key) 0) (not (eqb (getD w (placeOf w 1 key + at.manual) 0) 0)) (not (eqb (getD w (placeOf w 1 key + at.signaled) 0) 0)))))
           (event-known w s hold act a key ∙ ap (λ (o : Option Event). not (present o)) q)
           ∙ ap (λ (o : Option Event). given o None EventIs) (sym q)
       go (some x) q =

@@ -7,6 +7,7 @@ use native.Mathlib.Omega.{arith}
 use borrow.Author.Tests.{eqb-false}
 use lib.ListN.{getD, length}
 use lib.Dec.{eqb}
+use Rattle.words.specs.Layout as at
 use Rattle.arch.specs.declared.Architecture.{Architecture}
 use Rattle.objects.specs.Objects.{objectsBase, dpcsBase}
 use Rattle.images.specs.declared.Timer.{Timer}
@@ -80,17 +81,17 @@ module _ (w : List ℕ) (address size : ℕ) where
   object-test : (place : ℕ) (x : Object) → Row w place (objectRow x) → code.objectOverlaps w place address size ≡ byKind timerTest eventTest mutexTest x
   unfolding code.objectOverlaps sizeAt
   object-test place (mutex x) r =
-      ap (λ (k : ℕ). cond (eqb k 2) (cond (eqb (getD w (place + 0) 0) address) false (overlaps address size (getD w (place + 0) 0) (timerSize (architectureOf (getD w (place + 12) 0)))))
-      (cond (eqb k 1) (overlaps address size (getD w (place + 0) 0) 24) (overlaps address size (getD w (place + 0) 0) 56))) (r 1 0 refl)
+      ap (λ (k : ℕ). cond (eqb k 2) (cond (eqb (getD w (place + at.key) 0) address) false (overlaps address size (getD w (place + at.key) 0) (timerSize (architectureOf (getD w (place + at.timerArchitecture) 0)))))
+      (cond (eqb k 1) (overlaps address size (getD w (place + at.key) 0) 24) (overlaps address size (getD w (place + at.key) 0) 56))) (r 1 0 refl)
       ∙ ap (λ (k : ℕ). overlaps address size k 56) (r 0 (x .key) refl)
   object-test place (event x) r =
-      ap (λ (k : ℕ). cond (eqb k 2) (cond (eqb (getD w (place + 0) 0) address) false (overlaps address size (getD w (place + 0) 0) (timerSize (architectureOf (getD w (place + 12) 0)))))
-      (cond (eqb k 1) (overlaps address size (getD w (place + 0) 0) 24) (overlaps address size (getD w (place + 0) 0) 56))) (r 1 1 refl)
+      ap (λ (k : ℕ). cond (eqb k 2) (cond (eqb (getD w (place + at.key) 0) address) false (overlaps address size (getD w (place + at.key) 0) (timerSize (architectureOf (getD w (place + at.timerArchitecture) 0)))))
+      (cond (eqb k 1) (overlaps address size (getD w (place + at.key) 0) 24) (overlaps address size (getD w (place + at.key) 0) 56))) (r 1 1 refl)
       ∙ ap (λ (k : ℕ). overlaps address size k 24) (r 0 (x .key) refl)
   object-test place (timer x) r =
-      ap (λ (k : ℕ). cond (eqb k 2) (cond (eqb (getD w (place + 0) 0) address) false (overlaps address size (getD w (place + 0) 0) (timerSize (architectureOf (getD w (place + 12) 0)))))
-      (cond (eqb k 1) (overlaps address size (getD w (place + 0) 0) 24) (overlaps address size (getD w (place + 0) 0) 56))) (r 1 2 refl)
-      ∙ ap (λ (k : ℕ). cond (eqb k address) false (overlaps address size k (timerSize (architectureOf (getD w (place + 12) 0))))) (r 0 (x .address) refl)
+      ap (λ (k : ℕ). cond (eqb k 2) (cond (eqb (getD w (place + at.key) 0) address) false (overlaps address size (getD w (place + at.key) 0) (timerSize (architectureOf (getD w (place + at.timerArchitecture) 0)))))
+      (cond (eqb k 1) (overlaps address size (getD w (place + at.key) 0) 24) (overlaps address size (getD w (place + at.key) 0) 56))) (r 1 2 refl)
+      ∙ ap (λ (k : ℕ). cond (eqb k address) false (overlaps address size k (timerSize (architectureOf (getD w (place + at.timerArchitecture) 0))))) (r 0 (x .address) refl)
       ∙ ap (λ (k : Architecture). cond (eqb (x .address) address) false (overlaps address size (x .address) (timerSize k)))
       (ap architectureOf (r 12 (architectureNumber (x .architecture)) refl) ∙ architecture-read (x .architecture))
       ∙ apart (eqb (x .address) address) (overlaps address size (x .address) (timerSize (x .architecture)))
@@ -98,7 +99,7 @@ module _ (w : List ℕ) (address size : ℕ) where
   dpc-test : (place holder : ℕ) (d : Dpc) → Row w place (dpcRow holder d) → code.dpcOverlaps w place address size ≡ dpcTest d
   unfolding code.dpcOverlaps dpcSizeAt
   dpc-test place holder d r =
-      ap (λ (k : ℕ). cond (eqb k address) false (overlaps address size k (dpcSize (architectureOf (getD w (place + 4) 0))))) (r 0 (d .address) refl)
+      ap (λ (k : ℕ). cond (eqb k address) false (overlaps address size k (dpcSize (architectureOf (getD w (place + at.dpcArchitecture) 0))))) (r 0 (d .address) refl)
       ∙ ap (λ (k : Architecture). cond (eqb (d .address) address) false (overlaps address size (d .address) (dpcSize k)))
       (ap architectureOf (r 4 (architectureNumber (d .architecture)) refl) ∙ architecture-read (d .architecture))
       ∙ apart (eqb (d .address) address) (overlaps address size (d .address) (dpcSize (d .architecture)))

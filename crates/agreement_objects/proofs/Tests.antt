@@ -40,19 +40,19 @@ module _ (w : List ℕ) (s : State) (holder : ℕ → ℕ) (active : ℕ) (a : A
   pub object-known : (key : ℕ) → eqb (objectFound w key) 0 ≡ not (present (objectAt (s .dispatcher .objects) key))
   object-known key =
       tables.object-known keyOf w (objectsFrom (s .limits)) (s .dispatcher .objects) low (omega arith) (base-is w s holder active a)
-      (a .numbers 4 (length (s .dispatcher .objects)) refl) (objects-few w s holder active a) (a .shape .rising) (object-keys w s holder active a) key
+      (a .numbers at.objects (length (s .dispatcher .objects)) refl) (objects-few w s holder active a) (a .shape .rising) (object-keys w s holder active a) key
 
   pub dpc-known : (address : ℕ) → eqb (dpcFound w address) 0 ≡ not (present (dpcAt (s .dpcs .table) address))
   dpc-known address =
       tables.dpc-known addressOf w (dpcsFrom (s .limits)) (s .dpcs .table) low′ (omega arith) (dpcs-base-is w s holder active a)
-      (a .numbers 5 (length (s .dpcs .table)) refl) (dpcs-few w s holder active a) (a .shape .dpcs .rising) (dpc-keys w s holder active a) address
+      (a .numbers at.dpcs (length (s .dpcs .table)) refl) (dpcs-few w s holder active a) (a .shape .dpcs .rising) (dpc-keys w s holder active a) address
 
   -- another kind has the key, or a DPC
   pub collides-is : (kind key : ℕ) → code.collides w kind key ≡ collides s kind key
   unfolding collides
   collides-is kind key =
       tables.collides-is keyOf w (objectsFrom (s .limits)) (s .dispatcher .objects) low (omega arith) (base-is w s holder active a)
-      (a .numbers 4 (length (s .dispatcher .objects)) refl) (objects-few w s holder active a) (a .shape .rising) (object-keys w s holder active a) kindOf (object-kinds w s holder active a)
+      (a .numbers at.objects (length (s .dispatcher .objects)) refl) (objects-few w s holder active a) (a .shape .rising) (object-keys w s holder active a) kindOf (object-kinds w s holder active a)
       kind key (present (dpcAt (s .dpcs .table) key)) (dpc-known key)
 
   -- the key is new and the table at its limit
@@ -60,8 +60,8 @@ module _ (w : List ℕ) (s : State) (holder : ℕ → ℕ) (active : ℕ) (a : A
   unfolding isFull
   full-is key =
       tables.full-is keyOf w (objectsFrom (s .limits)) (s .dispatcher .objects) low (omega arith) (base-is w s holder active a)
-      (a .numbers 4 (length (s .dispatcher .objects)) refl) (objects-few w s holder active a) (a .shape .rising) (object-keys w s holder active a) key
-      ∙ ap (λ (n : ℕ). cond (present (objectAt (s .dispatcher .objects) key)) false (leb n (length (s .dispatcher .objects)))) (a .numbers 1 (s .limits .objects) refl)
+      (a .numbers at.objects (length (s .dispatcher .objects)) refl) (objects-few w s holder active a) (a .shape .rising) (object-keys w s holder active a) key
+      ∙ ap (λ (n : ℕ). cond (present (objectAt (s .dispatcher .objects) key)) false (leb n (length (s .dispatcher .objects)))) (a .numbers at.objectLimit (s .limits .objects) refl)
 
   -- ---- an object of a kind
 
@@ -104,18 +104,18 @@ module _ (w : List ℕ) (s : State) (holder : ℕ → ℕ) (active : ℕ) (a : A
   unfolding ownerOf
   owner-is key = go (objectAt (s .dispatcher .objects) key) refl
     where
-      by : (b : Bool) → eqb (placeOf w 0 key) 0 ≡ b → cond (eqb (placeOf w 0 key) 0) 0 (getD w (placeOf w 0 key + 4) 0) ≡ cond b 0 (getD w (placeOf w 0 key + 4) 0)
-      by b e = ap (λ (c : Bool). cond c 0 (getD w (placeOf w 0 key + 4) 0)) e
+      by : (b : Bool) → eqb (placeOf w 0 key) 0 ≡ b → cond (eqb (placeOf w 0 key) 0) 0 (getD w (placeOf w 0 key + at.owner) 0) ≡ cond b 0 (getD w (placeOf w 0 key + at.owner) 0)
+      by b e = ap (λ (c : Bool). cond c 0 (getD w (placeOf w 0 key + at.owner) 0)) e
 
       known : (o : Option Object) → objectAt (s .dispatcher .objects) key ≡ o → eqb (placeOf w 0 key) 0 ≡ not (present (asMutex o))
       known o e = mutex-known key ∙ ap (λ (p : Option Object). not (present (asMutex p))) e
 
       go : (o : Option Object) → objectAt (s .dispatcher .objects) key ≡ o
-          → cond (eqb (placeOf w 0 key) 0) 0 (getD w (placeOf w 0 key + 4) 0) ≡ given (mutexAt (s .dispatcher .objects) key) 0 (λ (m : Mutex). m .owner)
+          → cond (eqb (placeOf w 0 key) 0) 0 (getD w (placeOf w 0 key + at.owner) 0) ≡ given (mutexAt (s .dispatcher .objects) key) 0 (λ (m : Mutex). m .owner)
       go none e = by true (known none e) ∙ ap (λ (p : Option Object). given (asMutex p) 0 (λ (m : Mutex). m .owner)) (sym e)
       go (some (mutex m)) e =
           by false (known (some (mutex m)) e)
-          ∙ ap (λ (p : ℕ). getD w (p + 4) 0) (object-place w s holder active a key (mutex m) e)
+          ∙ ap (λ (p : ℕ). getD w (p + at.owner) 0) (object-place w s holder active a key (mutex m) e)
           ∙ object-row w s holder active a key (mutex m) e 4 (m .owner) refl
           ∙ ap (λ (p : Option Object). given (asMutex p) 0 (λ (m : Mutex). m .owner)) (sym e)
       go (some (event x)) e = by true (known (some (event x)) e) ∙ ap (λ (p : Option Object). given (asMutex p) 0 (λ (m : Mutex). m .owner)) (sym e)
@@ -143,7 +143,7 @@ module _ (w : List ℕ) (s : State) (holder : ℕ → ℕ) (active : ℕ) (a : A
 
   pub exited-is : (id : ℕ) → exited w id ≡ cond (isThread (s .dispatcher) id) (hasExited (statusOf (s .dispatcher) id)) false
   unfolding exited
-  exited-is id = ap (λ (b : Bool). cond b (eqb (getD w (at.threadAt id + 1) 0) 4) false) (known-is w s holder active a id) ∙ go (isThread (s .dispatcher) id) refl
+  exited-is id = ap (λ (b : Bool). cond b (eqb (getD w (at.threadAt id + at.state) 0) 4) false) (known-is w s holder active a id) ∙ go (isThread (s .dispatcher) id) refl
     where
       number : (x : Status) → eqb (statusNumber x) 4 ≡ hasExited x
       number running = refl
@@ -151,7 +151,7 @@ module _ (w : List ℕ) (s : State) (holder : ℕ → ℕ) (active : ℕ) (a : A
       number (waiting x) = refl
       number (state.exited n) = refl
 
-      go : (b : Bool) → isThread (s .dispatcher) id ≡ b → cond b (eqb (getD w (at.threadAt id + 1) 0) 4) false ≡ cond b (hasExited (statusOf (s .dispatcher) id)) false
+      go : (b : Bool) → isThread (s .dispatcher) id ≡ b → cond b (eqb (getD w (at.threadAt id + at.state) 0) 4) false ≡ cond b (hasExited (statusOf (s .dispatcher) id)) false
       go true q =
           let r = thread-range id q in
           ap (λ (n : ℕ). eqb n 4) (thread-word-is w s holder active a id (r .0) (r .1) 1 (statusNumber (statusOf (s .dispatcher) id)) refl) ∙ number (statusOf (s .dispatcher) id)

@@ -7,6 +7,7 @@ use mathlib.Core.Path.{_≡_, refl, sym, ap, _∙_, subst}
 use native.Mathlib.Omega.{arith}
 use lib.ListN.{getD, set, length}
 use lib.Dec.{eqb, leb}
+use Rattle.words.specs.Layout as at
 use Rattle.arch.specs.declared.Architecture.{Architecture}
 use Rattle.objects.specs.declared.Object as stored
 use Rattle.objects.specs.Objects as objects
@@ -98,7 +99,7 @@ module _ (w : List ℕ) (s : State) (a : Agree w s) where
   inserted-is : (address : ℕ) (t : Timer) → objectAt (s .dispatcher .objects) address ≡ some (timer t) → records.isInserted w (placeOf w 2 address) ≡ t .inserted
   unfolding records.isInserted
   inserted-is address t e =
-      ap (λ (p : ℕ). not (eqb (getD w (p + 5) 0) 0)) (object-place w s hold act a address (timer t) e)
+      ap (λ (p : ℕ). not (eqb (getD w (p + at.inserted) 0) 0)) (object-place w s hold act a address (timer t) e)
       ∙ ap (λ (n : ℕ). not (eqb n 0)) (object-row w s hold act a address (timer t) e 5 (flag (t .inserted)) refl) ∙ flag-read (t .inserted)
 
   timer-inserted : (address : ℕ) → cond (eqb (placeOf w 2 address) 0) false (records.isInserted w (placeOf w 2 address)) ≡ isInserted (s .dispatcher .objects) address
@@ -119,9 +120,9 @@ module _ (w : List ℕ) (s : State) (a : Agree w s) where
     pub timer-refusal : (address : ℕ) (arch : Architecture) (b : TimerBacking) → code.timerRefusal w address arch b ≡ timerRefusal s address arch b
     unfolding code.timerRefusal timerRefusal
     timer-refusal address arch b =
-        ap (λ (x : Bool). cond x 5 (cond (objects.full w address) 4 (cond (leb 65536 (getD w 19 0)) 14 (cond (code.inUse w address) 6 (code.placeRefusal w address (timerSize arch) arch b))))) (collides-is w s hold act a 2 address)
-        ∙ ap (λ (x : Bool). cond (collides s 2 address) 5 (cond x 4 (cond (leb 65536 (getD w 19 0)) 14 (cond (code.inUse w address) 6 (code.placeRefusal w address (timerSize arch) arch b))))) (full-is w s hold act a address)
-        ∙ ap (λ (n : ℕ). cond (collides s 2 address) 5 (cond (isFull s address) 4 (cond (leb 65536 n) 14 (cond (code.inUse w address) 6 (code.placeRefusal w address (timerSize arch) arch b))))) (a .numbers 19 (s .timerInitializations) refl)
+        ap (λ (x : Bool). cond x 5 (cond (objects.full w address) 4 (cond (leb 65536 (getD w at.timerInitializations 0)) 14 (cond (code.inUse w address) 6 (code.placeRefusal w address (timerSize arch) arch b))))) (collides-is w s hold act a 2 address)
+        ∙ ap (λ (x : Bool). cond (collides s 2 address) 5 (cond x 4 (cond (leb 65536 (getD w at.timerInitializations 0)) 14 (cond (code.inUse w address) 6 (code.placeRefusal w address (timerSize arch) arch b))))) (full-is w s hold act a address)
+        ∙ ap (λ (n : ℕ). cond (collides s 2 address) 5 (cond (isFull s address) 4 (cond (leb 65536 n) 14 (cond (code.inUse w address) 6 (code.placeRefusal w address (timerSize arch) arch b))))) (a .numbers at.timerInitializations (s .timerInitializations) refl)
         ∙ ap (λ (x : Bool). cond (collides s 2 address) 5 (cond (isFull s address) 4 (cond (leb 65536 (s .timerInitializations)) 14 (cond x 6 (code.placeRefusal w address (timerSize arch) arch b))))) (in-use address)
         ∙ ap (λ (n : ℕ). cond (collides s 2 address) 5 (cond (isFull s address) 4 (cond (leb 65536 (s .timerInitializations)) 14 (cond (cond (isWaitedOn s 2 address) true (isInserted (s .dispatcher .objects) address)) 6 n))))
         (place-refusal w s hold act a address (timerSize arch) arch b)
@@ -141,7 +142,7 @@ module _ (w : List ℕ) (s : State) (a : Agree w s) where
     unfolding code.timerInitialized refusal effect timerInitialized timerRefusal newTimer
     agree-initialize-timer address arch b manual =
         plainly-unless w s a (call.InitializeTimer address arch b manual) (code.timerRefusal w address arch b)
-        (outcome answer.Done (set (code.recordPut (entered w address (code.newTimer manual)) address arch b (getD w 19 0 + 1)) 19 (getD w 19 0 + 1))) (timer-refusal address arch b)
+        (outcome answer.Done (set (code.recordPut (entered w address (code.newTimer manual)) address arch b (getD w at.timerInitializations 0 + 1)) 19 (getD w at.timerInitializations 0 + 1))) (timer-refusal address arch b)
         (λ e. let r₁ = passes (collides s 2 address) 4 _ e in
         let r₂ = passes (isFull s address) 3 _ (r₁ .1) in
         let r₃ = passes (leb lifetime (s .timerInitializations)) 13 _ (r₂ .1) in
@@ -149,12 +150,12 @@ module _ (w : List ℕ) (s : State) (a : Agree w s) where
         record { answers = refl; agree = after (r₂ .0) (r₄ .0) })
       where
         after : isFull s address ≡ false → isInserted (s .dispatcher .objects) address ≡ false
-            → Agree (set (code.recordPut (entered w address (code.newTimer manual)) address arch b (getD w 19 0 + 1)) 19 (getD w 19 0 + 1)) (timerInitialized s address arch b manual)
+            → Agree (set (code.recordPut (entered w address (code.newTimer manual)) address arch b (getD w at.timerInitializations 0 + 1)) 19 (getD w at.timerInitializations 0 + 1)) (timerInitialized s address arch b manual)
         after space idle =
             let n = s .timerInitializations + 1 in
             let t = newTimer address arch b manual n in
             subst (λ (k : ℕ). Agree (set (code.recordPut (entered w address (code.newTimer manual)) address arch b (k + 1)) 19 (k + 1)) (timerInitialized s address arch b manual))
-            (sym (a .numbers 19 (s .timerInitializations) refl))
+            (sym (a .numbers at.timerInitializations (s .timerInitializations) refl))
             (agreeing-same (set (code.recordPut (entered w address (code.newTimer manual)) address arch b n) 19 n) (timerInitialized s address arch b manual) hold act
             (sim-timers-made (code.recordPut (entered w address (code.newTimer manual)) address arch b n) (withTable s (putObject (timer t) (s .dispatcher .objects))) hold act
             (sim-new-timer address arch b manual n (room-for s v (timer t) space)) n)

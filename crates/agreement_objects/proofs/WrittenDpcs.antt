@@ -4,6 +4,7 @@ use mathlib.Core.List.{List}
 use mathlib.Core.Path.{_≡_, sym, subst}
 use native.Mathlib.Omega.{arith}
 use lib.ListN.{getD, length}
+use Rattle.words.specs.Layout as at
 use Rattle.images.specs.declared.Dpc.{Dpc}
 use Rattle.model.specs.State.{State}
 use Rattle.model.specs.Step.{withDpcs}
@@ -25,11 +26,11 @@ module _ (w : List ℕ) (s : State) (holder : ℕ → ℕ) (active : ℕ) (a : A
     pub no-last : j ≡ 24 → ⊥
     pub no-dpc : dpcsFrom (s .limits) ≤ j → ⊥
 
-  pub sim-dpcs : (w′ : List ℕ) (table′ : List Dpc) (holder′ : ℕ → ℕ) → length w′ ≡ length w → Same Elsewhere w w′ → getD w′ 5 0 ≡ length table′ → DpcTable w′ (dpcsFrom (s .limits)) holder′ table′
+  pub sim-dpcs : (w′ : List ℕ) (table′ : List Dpc) (holder′ : ℕ → ℕ) → length w′ ≡ length w → Same Elsewhere w w′ → getD w′ at.dpcs 0 ≡ length table′ → DpcTable w′ (dpcsFrom (s .limits)) holder′ table′
       → Holds w′ (queueFrom (dpcsFrom (s .limits))) (numbersIn table′ (s .dpcs .queue)) → length table′ ≤ s .limits .dpcs → DpcsFit table′ (s .dpcs .queue)
       → Agreeing w′ (withDpcs s (record { table = table′; queue = s .dpcs .queue; counters = s .dpcs .counters })) holder′ active
   sim-dpcs w′ table′ holder′ len same count rows work room fits = record {
-    enough = subst (λ (m : ℕ). 256 + 160 * s .limits .threads + 32 * (s .limits .objects + s .limits .dpcs) ≤ m) (sym len) (a .enough);
+    enough = subst (λ (m : ℕ). at.headerSize + at.threadSize * s .limits .threads + 32 * (s .limits .objects + s .limits .dpcs) ≤ m) (sym len) (a .enough);
     numbers = row-one w w′ 0 (headerOf s active) 5 (length table′) (a .numbers)
         (λ j o n. let h = header-word s active j o in
         same j (record { no-count = λ e. n (omega arith); no-first = λ e. h .no-end (omega arith) (omega arith); no-last = λ e. h .no-end (omega arith) (omega arith); no-dpc = λ x. omega (arith, h .small) })) count;
@@ -41,7 +42,7 @@ module _ (w : List ℕ) (s : State) (holder : ℕ → ℕ) (active : ℕ) (a : A
     waiters = waiters-depend w w′ n (s .dispatcher .waiters) (threads-few w s holder active a) (a .shape .waiting-standing)
         (λ j r. waiter-cases (getD w′ j 0 ≡ getD w j 0) n j r (λ e. low j (omega arith) (omega arith)) (λ e. low j (omega arith) (omega arith))
         (λ l. front j (omega (arith, l .here)) (omega (arith, l .here, l .le, fit)))) (a .waiters);
-    objects = objects-depend w w′ (256 + 160 * s .limits .threads) (s .dispatcher .objects) (λ j f. front j (omega (arith, f .here)) (omega (arith, f .here, f .has, f .below, a .shape .sizes .objects-fit))) (a .objects);
+    objects = objects-depend w w′ (at.headerSize + at.threadSize * s .limits .threads) (s .dispatcher .objects) (λ j f. front j (omega (arith, f .here)) (omega (arith, f .here, f .has, f .below, a .shape .sizes .objects-fit))) (a .objects);
     dpcs = rows;
     work = work;
     shape = record {
@@ -63,7 +64,7 @@ module _ (w : List ℕ) (s : State) (holder : ℕ → ℕ) (active : ℕ) (a : A
       fit = a .shape .sizes .threads-fit
 
       -- before the table of DPCs, and not a number of the header that it writes
-      front : (j : ℕ) → 25 ≤ j → j < 256 + 160 * s .limits .threads + 32 * s .limits .objects → getD w′ j 0 ≡ getD w j 0
+      front : (j : ℕ) → 25 ≤ j → j < at.headerSize + at.threadSize * s .limits .threads + 32 * s .limits .objects → getD w′ j 0 ≡ getD w j 0
       front j h k = same j (record { no-count = λ e. omega arith; no-first = λ e. omega arith; no-last = λ e. omega arith; no-dpc = λ x. omega arith })
 
       low : (j : ℕ) → 6 ≤ j → j < 23 → getD w′ j 0 ≡ getD w j 0

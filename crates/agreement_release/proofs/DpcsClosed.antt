@@ -7,6 +7,7 @@ use mathlib.Core.Path.{_≡_, refl, sym, ap, ap₂, _∙_, subst}
 use native.Mathlib.Omega.{arith}
 use lib.Dec.{eqb}
 use lib.ListN.{getD, length}
+use Rattle.words.specs.Layout as at
 use Rattle.images.specs.declared.Dpc.{Dpc}
 use Rattle.images.specs.declared.DpcPhase.{DpcPhase}
 use Rattle.images.specs.declared.DpcPhase.the-variants.{Idle, Queued, Running, Returning}
@@ -64,7 +65,7 @@ module _ (w : List ℕ) (s : State) (holder : ℕ → ℕ) (active : ℕ) (a : A
   low : base ≤ 1000000
   low = omega (arith, a .shape .sizes .limits .threads, a .shape .sizes .limits .objects)
 
-  high : 256 ≤ base
+  high : at.headerSize ≤ base
   high = omega arith
 
   few : length xs ≤ 4096
@@ -119,8 +120,8 @@ module _ (w : List ℕ) (s : State) (holder : ℕ → ℕ) (active : ℕ) (a : A
   base₁ : dpcsBase w₁ ≡ base
   base₁ = base-depends w w₁ (front₁ 0 (omega arith)) (front₁ 1 (omega arith)) ∙ dpcs-base-is w s holder active a
 
-  count₁ : getD w₁ 5 0 ≡ length xs
-  count₁ = front₁ 5 (omega arith) ∙ a .numbers 5 (length xs) refl
+  count₁ : getD w₁ at.dpcs 0 ≡ length xs
+  count₁ = front₁ 5 (omega arith) ∙ a .numbers at.dpcs (length xs) refl
 
   work₁ : chains.Holds w₁ (queueFrom base) ns
   work₁ = work-depends w w₁ base xs (s .dpcs .queue) few (a .shape .dpcs)
@@ -153,7 +154,7 @@ module _ (w : List ℕ) (s : State) (holder : ℕ → ℕ) (active : ℕ) (a : A
         passes = k .2;
       }
 
-  last₁ : Mem (getD w₁ 24 0) (0 ∷ ns)
+  last₁ : Mem (getD w₁ at.queueLast 0) (0 ∷ ns)
   last₁ = subst (λ (y : ℕ). Mem y (0 ∷ ns)) (sym (work₁ .last)) (last-mem 0 ns)
 
   short : length ns ≤ 4096
@@ -174,7 +175,7 @@ module _ (w : List ℕ) (s : State) (holder : ℕ → ℕ) (active : ℕ) (a : A
   unfolding w₂
   length-closed = length-closed-up addressOf g w₁ base xs ns low high base₁ count₁ few long₁ (a .shape .dpcs .rising) are₁ queued₁ (standing .once) short stay last₁ ∙ marks₁ .size
 
-  pub dpcs-counted : getD w₂ 5 0 ≡ length (keep g xs)
+  pub dpcs-counted : getD w₂ at.dpcs 0 ≡ length (keep g xs)
   unfolding w₂
   dpcs-counted = closed-count addressOf g w₁ base xs ns low high base₁ count₁ few long₁ (a .shape .dpcs .rising) are₁ queued₁ (standing .once) short stay last₁
 

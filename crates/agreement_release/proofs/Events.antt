@@ -6,6 +6,7 @@ use mathlib.Core.Path.{_≡_, refl, ap, _∙_}
 use native.Mathlib.Omega.{arith}
 use lib.Dec.{eqb, ltb}
 use lib.ListN.{getD, length}
+use Rattle.words.specs.Layout as at
 use Rattle.answers.specs.declared.Answer.the-variants as answer
 use Rattle.call_answers.specs.Told.{told}
 use Rattle.event_release.specs.Release.{isEvent, isRetired, retired, releaseRefusal, releaseAnswer, eventsRetired}
@@ -102,14 +103,14 @@ module _ (w : List ℕ) (s : State) (a : Agree w s) where
       low : objectsFrom (s .limits) ≤ 1000000
       low = omega (arith, a .shape .sizes .limits .threads)
 
-      high : 256 ≤ objectsFrom (s .limits)
+      high : at.headerSize ≤ objectsFrom (s .limits)
       high = omega arith
 
       at : objectsBase w ≡ objectsFrom (s .limits)
       at = base-is w s (holderOf (s .dispatcher .objects)) (activeAddress (s .dpcs .table)) a
 
-      count : getD w 4 0 ≡ length (s .dispatcher .objects)
-      count = a .numbers 4 (length (s .dispatcher .objects)) refl
+      count : getD w at.objects 0 ≡ length (s .dispatcher .objects)
+      count = a .numbers at.objects (length (s .dispatcher .objects)) refl
 
       few : length (s .dispatcher .objects) ≤ 4096
       few = objects-few w s (holderOf (s .dispatcher .objects)) (activeAddress (s .dpcs .table)) a

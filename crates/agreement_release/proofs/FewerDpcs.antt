@@ -5,6 +5,7 @@ use mathlib.Core.Bool.{Bool, true, not}
 use mathlib.Core.Path.{_≡_, sym, ap, subst}
 use native.Mathlib.Omega.{arith}
 use lib.ListN.{getD, length}
+use Rattle.words.specs.Layout as at
 use Rattle.images.specs.declared.Dpc.{Dpc}
 use Rattle.dpc_table.specs.Table.{closedUp}
 use Rattle.timers.specs.Release.{dpcsMarked}
@@ -60,7 +61,7 @@ module _ (w : List ℕ) (s : State) (holder : ℕ → ℕ) (active : ℕ) (a : A
       (withDpcs s (record { table = keep (λ (d : Dpc). not (dpcOverlapped address size d)) (s .dpcs .table); queue = s .dpcs .queue; counters = s .dpcs .counters })) holder active
   unfolding closed.w₂ closed.w₁
   sim-dpcs-closed = record {
-    enough = subst (λ (m : ℕ). 256 + 160 * s .limits .threads + 32 * (s .limits .objects + s .limits .dpcs) ≤ m) (sym (length-closed w s holder active a address size unqueued)) (a .enough);
+    enough = subst (λ (m : ℕ). at.headerSize + at.threadSize * s .limits .threads + 32 * (s .limits .objects + s .limits .dpcs) ≤ m) (sym (length-closed w s holder active a address size unqueued)) (a .enough);
     numbers = row-one w w′ 0 (headerOf s active) 5 (length (keep g xs)) (a .numbers)
         (λ j o q. let h = header-word s active j o in before-dpcs w s holder active a address size unqueued j (omega (arith, h .small)) (λ e. q (omega arith))
         (λ e. h .no-end (omega arith) (omega arith)) (λ e. h .no-end (omega arith) (omega arith)))
@@ -73,7 +74,7 @@ module _ (w : List ℕ) (s : State) (holder : ℕ → ℕ) (active : ℕ) (a : A
     waiters = waiters-depend w w′ n (s .dispatcher .waiters) (threads-few w s holder active a) (a .shape .waiting-standing)
         (λ j r. waiter-cases (getD w′ j 0 ≡ getD w j 0) n j r (λ e. word j (omega arith) (λ z. omega arith)) (λ e. word j (omega arith) (λ z. omega arith))
         (λ l. front j (omega (arith, l .here)) (omega (arith, l .here, l .le, fit)))) (a .waiters);
-    objects = objects-depend w w′ (256 + 160 * s .limits .threads) (s .dispatcher .objects) (λ j f. front j (omega (arith, f .here)) (omega (arith, f .here, f .has, f .below, a .shape .sizes .objects-fit))) (a .objects);
+    objects = objects-depend w w′ (at.headerSize + at.threadSize * s .limits .threads) (s .dispatcher .objects) (λ j f. front j (omega (arith, f .here)) (omega (arith, f .here, f .has, f .below, a .shape .sizes .objects-fit))) (a .objects);
     dpcs = dpcs-kept w s holder active a address size unqueued;
     work = work-kept w s holder active a address size unqueued;
     shape = record {

@@ -8,6 +8,7 @@ use mathlib.Core.Path.{_≡_, refl, sym, ap, _∙_}
 use native.Mathlib.Omega.{arith}
 use borrow.Author.Tests.{ne-eqb}
 use lib.Dec.{eqb}
+use Rattle.words.specs.Layout as at
 use Rattle.images.specs.declared.Dpc.{Dpc}
 use Rattle.images.specs.declared.DpcWork.{DpcWork}
 use Rattle.images.specs.declared.DpcOrigin.{DpcOrigin}
@@ -68,7 +69,7 @@ periodic-is w place key holder d h r =
 module _ (w : List ℕ) (s : State) (holder : ℕ → ℕ) (a : Agreeing w s holder (activeAddress (s .dpcs .table))) where
   pub active-origin-is : (key : ℕ) → activeOrigin w key ≡ isPeriodicOrigin (s .dpcs .table) key
   unfolding activeOrigin
-  active-origin-is key = ap ask (a .numbers 25 (activeAddress (s .dpcs .table)) refl) ∙ go (activeDpc (s .dpcs .table)) refl
+  active-origin-is key = ap ask (a .numbers at.active (activeAddress (s .dpcs .table)) refl) ∙ go (activeDpc (s .dpcs .table)) refl
     where
       ask : ℕ → Bool
       ask n = cond (eqb n 0) false (cond (eqb (dpcFound w n) 0) false (periodicOrigin w (dpcFound w n) key))

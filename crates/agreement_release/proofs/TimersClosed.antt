@@ -109,17 +109,17 @@ module _ (w : List ℕ) (s : State) (holder : ℕ → ℕ) (active : ℕ) (a : A
   len₁ = marks₁ .size
 
   -- words before the table stay
-  front₁ : (j : ℕ) → j < 256 → getD w₁ j 0 ≡ getD w j 0
+  front₁ : (j : ℕ) → j < at.headerSize → getD w₁ j 0 ≡ getD w j 0
   front₁ j h = marks₁ .others j (λ t x y e. omega arith)
 
   base₁ : objectsBase w₁ ≡ base
   unfolding objectsBase
-  base₁ = ap at.objectsAt (front₁ 0 (omega arith) ∙ a .numbers 0 (s .limits .threads) refl) ∙ objects-place (s .limits .threads) (a .shape .sizes .limits .threads)
+  base₁ = ap at.objectsAt (front₁ 0 (omega arith) ∙ a .numbers at.threadLimit (s .limits .threads) refl) ∙ objects-place (s .limits .threads) (a .shape .sizes .limits .threads)
 
   count₁ : objectCount w₁ ≡ length xs
   unfolding objectCount
   count₁ =
-      ap (λ (m : ℕ). cond (leb m 4096) m 4096) (front₁ 4 (omega arith) ∙ a .numbers 4 (length xs) refl)
+      ap (λ (m : ℕ). cond (leb m 4096) m 4096) (front₁ 4 (omega arith) ∙ a .numbers at.objects (length xs) refl)
       ∙ ap (λ (b : Bool). cond b (length xs) 4096) (le-leb (length xs) 4096 few)
 
   -- ---- taken out
@@ -148,7 +148,7 @@ module _ (w : List ℕ) (s : State) (holder : ℕ → ℕ) (active : ℕ) (a : A
       taken-holds tables.Whole Stay stay-local f 1 9 (omega arith) base low w₁ (length xs) xs refl few (omega (arith, len₁, long)) rows₁ are₁ 4 (omega arith) i x e
       (mem-keep f x xs (nth-mem (keep f xs) i x e) .1)
 
-  count₂ : getD w₂ 4 0 ≡ length (keep f xs)
+  count₂ : getD w₂ at.objects 0 ≡ length (keep f xs)
   unfolding w₂
   count₂ = taken-count tables.Whole Stay stay-local f 1 9 (omega arith) base low w₁ (length xs) xs refl few (omega (arith, len₁, long)) rows₁ are₁ 4 (omega arith) (omega (arith, len₁, long))
 

@@ -9,6 +9,7 @@ use native.Mathlib.Omega.{arith}
 use borrow.Author.Tests.{le-leb}
 use lib.Dec.{leb}
 use lib.ListN.{getD, set, length, length-set}
+use Rattle.words.specs.Layout as at
 use Rattle.tables.specs.Compact.{compacted, compactedTo}
 use Rattle.objects.specs.Objects.{dpcsBase}
 use Rattle.chains.specs.declared.Chain.{Chain}
@@ -26,14 +27,14 @@ use Rattle.agreement_tables.proofs.Links.{queue-first, queue-link, queu
 use Rattle.agreement_tables.proofs.Compacts.{Marked, marked-at, compacted-holds, compacted-to-is, compacted-outside, compacted-copied, length-compacted}
 use Rattle.agreement_tables.proofs.Renewals.{length-numbered, numbered-outside, numbered-shows, base-depends, Renewable, new-is, queued-depends, length-renewed, renewed-outside, renewed-shows}
 
-count-is : (w : List ℕ) (n : ℕ) → getD w 5 0 ≡ n → n ≤ 4096 → dpcCount w ≡ n
+count-is : (w : List ℕ) (n : ℕ) → getD w at.dpcs 0 ≡ n → n ≤ 4096 → dpcCount w ≡ n
 unfolding dpcCount
 count-is w n e h = ap (λ (m : ℕ). cond (leb m 4096) m 4096) e ∙ ap (λ (b : Bool). cond b n 4096) (le-leb n 4096 h)
 
 module _ {A : Type 0} (key : A → ℕ) (f : A → Bool) (w : List ℕ) (base : ℕ) (xs : List A) (ns : List ℕ)
-    (low : base ≤ 1000000) (high : 256 ≤ base) (at : dpcsBase w ≡ base) (count : getD w 5 0 ≡ length xs) (few : length xs ≤ 4096) (long : base + 32 * length xs ≤ length w)
+    (low : base ≤ 1000000) (high : at.headerSize ≤ base) (at : dpcsBase w ≡ base) (count : getD w at.dpcs 0 ≡ length xs) (few : length xs ≤ 4096) (long : base + 32 * length xs ≤ length w)
     (rising : Rising key xs) (marks : Holds (Marked f 1 9) w base xs)
-    (queued : Queued w (queueOf base) 0 ns) (once : Distinct ns) (short : length ns ≤ 4096) (stay : (y : ℕ) → Mem y ns → Stays f xs y) (last : Mem (getD w 24 0) (0 ∷ ns)) where
+    (queued : Queued w (queueOf base) 0 ns) (once : Distinct ns) (short : length ns ≤ 4096) (stay : (y : ℕ) → Mem y ns → Stays f xs y) (last : Mem (getD w at.queueLast 0) (0 ∷ ns)) where
   good : (y : ℕ) → Mem y ns → (1 ≤ y) × (y ≤ length xs) × Stays f xs y
   good y m = let s = stay y m in
       let l = nth-in xs (s .position) (s .one) (s .here) in
@@ -55,7 +56,7 @@ module _ {A : Type 0} (key : A → ℕ) (f : A → Bool) (w : List ℕ) (base : 
   unfolding w₁
   len₁ = length-numbered (length xs) w base 0 0
 
-  out₁ : (R : ℕ → Type 0) → ((t : ℕ) → t < length xs → R (base + 32 * t + 21) → ⊥) → Same R w w₁
+  out₁ : (R : ℕ → Type 0) → ((t : ℕ) → t < length xs → R (base + 32 * t + at.newNumber) → ⊥) → Same R w w₁
   unfolding w₁
   out₁ R far = numbered-outside (length xs) R w base 0 0 low (omega arith) (λ t a b. far t (omega arith))
 
@@ -111,33 +112,33 @@ module _ {A : Type 0} (key : A → ℕ) (f : A → Bool) (w : List ℕ) (base : 
   renewable-r = record {
     at = base-depends w₁ r (one-r 0 (λ e. omega arith) (λ t l e. omega arith)) (one-r 1 (λ e. omega arith) (λ t l e. omega arith)) ∙ at₁;
     long = omega (arith, len-r);
-    news = λ t l s. one-r (base + 32 * t + 21) (λ e. omega arith) (λ u k e. omega arith) ∙ renewable₁ .news t l s;
+    news = λ t l s. one-r (base + 32 * t + at.newNumber) (λ e. omega arith) (λ u k e. omega arith) ∙ renewable₁ .news t l s;
   }
 
-  last-r : getD r 24 0 ≡ getD w 24 0
+  last-r : getD r at.queueLast 0 ≡ getD w at.queueLast 0
   last-r = one-r 24 (λ e. omega arith) (λ t l e. omega arith) ∙ one₁ 24 (λ t l e. omega arith)
 
-  new-last : newNumber r (getD r 24 0) ≡ newNumberOf f xs (getD w 24 0)
+  new-last : newNumber r (getD r at.queueLast 0) ≡ newNumberOf f xs (getD w at.queueLast 0)
   new-last = ap (newNumber r) last-r
-      ∙ new-is base (length xs) low high few (newNumberOf f xs) refl (Stays f xs) r renewable-r (getD w 24 0)
-      (⊎-elim (λ (e : getD w 24 0 ≡ 0). inl e) (λ (m : Mem (getD w 24 0) ns). inr (good (getD w 24 0) m)) last)
+      ∙ new-is base (length xs) low high few (newNumberOf f xs) refl (Stays f xs) r renewable-r (getD w at.queueLast 0)
+      (⊎-elim (λ (e : getD w at.queueLast 0 ≡ 0). inl e) (λ (m : Mem (getD w at.queueLast 0) ns). inr (good (getD w at.queueLast 0) m)) last)
 
   w₂ : List ℕ
-  w₂ = set r 24 (newNumber r (getD r 24 0))
+  w₂ = set r 24 (newNumber r (getD r at.queueLast 0))
 
   relinked-is : relinked (numbered w) ≡ w₂
   unfolding relinked linksRenewed r w₂
   relinked-is =
       ap relinked numbered-is
-      ∙ ap (λ (c : Chain). set (linksRenewedIn 4097 w₁ c 0) 24 (newNumber (linksRenewedIn 4097 w₁ c 0) (getD (linksRenewedIn 4097 w₁ c 0) 24 0))) (queue-is w₁ base at₁)
+      ∙ ap (λ (c : Chain). set (linksRenewedIn 4097 w₁ c 0) 24 (newNumber (linksRenewedIn 4097 w₁ c 0) (getD (linksRenewedIn 4097 w₁ c 0) at.queueLast 0))) (queue-is w₁ base at₁)
 
   len₂ : length w₂ ≡ length w
   unfolding w₂
-  len₂ = length-set r 24 (newNumber r (getD r 24 0)) ∙ len-r
+  len₂ = length-set r 24 (newNumber r (getD r at.queueLast 0)) ∙ len-r
 
   two : (p : ℕ) → (p ≡ 24 → ⊥) → getD w₂ p 0 ≡ getD r p 0
   unfolding w₂
-  two p n = read-other r 24 p (newNumber r (getD r 24 0)) n
+  two p n = read-other r 24 p (newNumber r (getD r at.queueLast 0)) n
 
   -- a word apart from links, new numbers and the queue's ends
   one₂ : (p : ℕ) → (p ≡ 23 → ⊥) → (p ≡ 24 → ⊥) → ((t : ℕ) → t < length xs → p ≡ base + 32 * t + 2 → ⊥) → ((t : ℕ) → t < length xs → base + 32 * t + 21 ≡ p → ⊥) → getD w₂ p 0 ≡ getD w p 0
@@ -172,9 +173,9 @@ module _ {A : Type 0} (key : A → ℕ) (f : A → Bool) (w : List ℕ) (base : 
       ap length closed-is ∙ length-set (compacted w₂ base (length xs) 1 9) 5 (compactedTo w₂ base (length xs) 1 9) ∙ length-compacted w₂ base (length xs) 1 9 ∙ len₂
 
   -- how many stay
-  pub closed-count : getD (closedUp w) 5 0 ≡ length (keep f xs)
+  pub closed-count : getD (closedUp w) at.dpcs 0 ≡ length (keep f xs)
   closed-count =
-      ap (λ (v : List ℕ). getD v 5 0) closed-is
+      ap (λ (v : List ℕ). getD v at.dpcs 0) closed-is
       ∙ read-same (compacted w₂ base (length xs) 1 9) 5 (compactedTo w₂ base (length xs) 1 9) (omega (arith, length-compacted w₂ base (length xs) 1 9, len₂))
       ∙ compacted-to-is NoNumber (Marked f 1 9) (marked-at f 1 9 NoNumber (omega arith) (λ e. omega arith, λ e. omega arith)) f 1 9 (omega arith) base low w₂ (length xs) xs refl few (omega (arith, len₂)) marks₂ marks₂
 
@@ -188,15 +189,15 @@ module _ {A : Type 0} (key : A → ℕ) (f : A → Bool) (w : List ℕ) (base : 
   pub closed-up-outside : (R : ℕ → Type 0) → (R 5 → ⊥) → (R 23 → ⊥) → (R 24 → ⊥) → ((p : ℕ) → base ≤ p → p < base + 32 * length xs → R p → ⊥) → Same R w (closedUp w)
   closed-up-outside R five first end far j r =
       compacted-word j (λ e. five (subst R e r)) ∙ compacted-outside R w₂ base (length xs) 1 9 low far j r
-      ∙ one₂ j (λ e. first (subst R e r)) (λ e. end (subst R e r)) (λ t m e. far (base + 32 * t + 2) (omega arith) (omega arith) (subst R e r))
-      (λ t m e. far (base + 32 * t + 21) (omega arith) (omega arith) (subst R (sym e) r))
+      ∙ one₂ j (λ e. first (subst R e r)) (λ e. end (subst R e r)) (λ t m e. far (base + 32 * t + at.nextQueued) (omega arith) (omega arith) (subst R e r))
+      (λ t m e. far (base + 32 * t + at.newNumber) (omega arith) (omega arith) (subst R (sym e) r))
 
   below-table : (p : ℕ) → p < base → (p ≡ 5 → ⊥) → getD (closedUp w) p 0 ≡ getD w₂ p 0
   below-table p h n = compacted-word p n ∙ compacted-outside (λ q. q ≡ p) w₂ base (length xs) 1 9 low (λ q a b e. omega arith) p refl
 
-  pub closed-last : getD (closedUp w) 24 0 ≡ newNumberOf f xs (getD w 24 0)
+  pub closed-last : getD (closedUp w) at.queueLast 0 ≡ newNumberOf f xs (getD w at.queueLast 0)
   unfolding w₂
-  closed-last = below-table 24 (omega arith) (λ e. omega arith) ∙ read-same r 24 (newNumber r (getD r 24 0)) (omega (arith, len-r)) ∙ new-last
+  closed-last = below-table 24 (omega arith) (λ e. omega arith) ∙ read-same r 24 (newNumber r (getD r at.queueLast 0)) (omega (arith, len-r)) ∙ new-last
 
   -- the link of a DPC by its new number is the new number of its link
   pub closed-links : (y : ℕ) → Mem y (0 ∷ ns) → getD (closedUp w) (linkAt (queueOf base) (newNumberOf f xs y)) 0 ≡ newNumberOf f xs (getD w (linkAt (queueOf base) y) 0)
@@ -207,9 +208,9 @@ module _ {A : Type 0} (key : A → ℕ) (f : A → Bool) (w : List ℕ) (base : 
   closed-links y (inr m) =
       ap (λ (z : ℕ). getD (closedUp w) (linkAt (queueOf base) (newNumberOf f xs z)) 0) (s .number)
       ∙ ap (λ (p : ℕ). getD (closedUp w) p 0) (queue-link base high (keptBefore f xs (s .position)) (omega (arith, kept-before-le f xs (s .position), l)))
-      ∙ compacted-word (base + 32 * keptBefore f xs (s .position) + 2) (λ e. omega arith)
+      ∙ compacted-word (base + 32 * keptBefore f xs (s .position) + at.nextQueued) (λ e. omega arith)
       ∙ compacted-copied key f 1 9 (omega arith) base low w₂ (length xs) xs refl few (omega (arith, len₂)) rising marks₂ (s .position) (s .one) (s .here) (s .passes) 2 (omega arith) tt
-      ∙ two (base + 32 * s .position + 2) (λ e. omega arith)
+      ∙ two (base + 32 * s .position + at.nextQueued) (λ e. omega arith)
       ∙ ap (λ (p : ℕ). getD r p 0) (sym (queue-link base high (s .position) (omega (arith, l))))
       ∙ ap (λ (z : ℕ). getD r (linkAt (queueOf base) z) 0) (sym (s .number))
       ∙ links-r y (inr m)

@@ -9,6 +9,7 @@ use native.Mathlib.Decide.{decLt}
 use borrow.Author.Tests.{eq-eqb, ne-eqb, lt-leb}
 use lib.Dec.{eqb, leb}
 use lib.ListN.{getD, set, length, length-set}
+use Rattle.words.specs.Layout as at
 use Rattle.words.specs.Layout.{entryAt}
 use Rattle.tables.specs.Table.{position, gapOpened}
 use Rattle.tables.proofs.TableLaws.{entry-is}
@@ -36,168 +37,168 @@ pub dpc-outside : (R : ℕ → Type 0) (w : List ℕ) (place address : ℕ) (d :
 unfolding putDpc putIdle putImage
 dpc-outside R w place address d far j r =
     let w₁ = set w place address in
-    let w₂ = set w₁ (place + 1) 0 in
-    let w₃ = set w₂ (place + 2) 0 in
-    let w₄ = set w₃ (place + 3) 0 in
-    let w₅ = set w₄ (place + 4) (d .architecture) in
-    let w₆ = set w₅ (place + 5) (d .backing) in
-    let w₇ = set w₆ (place + 6) (d .base) in
-    let w₈ = set w₇ (place + 7) (d .size) in
-    let w₉ = set w₈ (place + 8) (d .mapped) in
-    let w₁₀ = set w₉ (place + 9) (d .routine) in
-    set-outside R w₁₀ (place + 10) (d .context) (far 10 (omega arith)) j r
-    ∙ set-outside R w₉ (place + 9) (d .routine) (far 9 (omega arith)) j r
-    ∙ set-outside R w₈ (place + 8) (d .mapped) (far 8 (omega arith)) j r
-    ∙ set-outside R w₇ (place + 7) (d .size) (far 7 (omega arith)) j r
-    ∙ set-outside R w₆ (place + 6) (d .base) (far 6 (omega arith)) j r
-    ∙ set-outside R w₅ (place + 5) (d .backing) (far 5 (omega arith)) j r
-    ∙ set-outside R w₄ (place + 4) (d .architecture) (far 4 (omega arith)) j r
-    ∙ set-outside R w₃ (place + 3) 0 (far 3 (omega arith)) j r
-    ∙ set-outside R w₂ (place + 2) 0 (far 2 (omega arith)) j r
-    ∙ set-outside R w₁ (place + 1) 0 (far 1 (omega arith)) j r
+    let w₂ = set w₁ (place + at.phase) 0 in
+    let w₃ = set w₂ (place + at.nextQueued) 0 in
+    let w₄ = set w₃ (place + at.namedBy) 0 in
+    let w₅ = set w₄ (place + at.dpcArchitecture) (d .architecture) in
+    let w₆ = set w₅ (place + at.dpcBacking) (d .backing) in
+    let w₇ = set w₆ (place + at.dpcBase) (d .base) in
+    let w₈ = set w₇ (place + at.dpcSize) (d .size) in
+    let w₉ = set w₈ (place + at.dpcMapped) (d .mapped) in
+    let w₁₀ = set w₉ (place + at.routine) (d .routine) in
+    set-outside R w₁₀ (place + at.context) (d .context) (far 10 (omega arith)) j r
+    ∙ set-outside R w₉ (place + at.routine) (d .routine) (far 9 (omega arith)) j r
+    ∙ set-outside R w₈ (place + at.dpcMapped) (d .mapped) (far 8 (omega arith)) j r
+    ∙ set-outside R w₇ (place + at.dpcSize) (d .size) (far 7 (omega arith)) j r
+    ∙ set-outside R w₆ (place + at.dpcBase) (d .base) (far 6 (omega arith)) j r
+    ∙ set-outside R w₅ (place + at.dpcBacking) (d .backing) (far 5 (omega arith)) j r
+    ∙ set-outside R w₄ (place + at.dpcArchitecture) (d .architecture) (far 4 (omega arith)) j r
+    ∙ set-outside R w₃ (place + at.namedBy) 0 (far 3 (omega arith)) j r
+    ∙ set-outside R w₂ (place + at.nextQueued) 0 (far 2 (omega arith)) j r
+    ∙ set-outside R w₁ (place + at.phase) 0 (far 1 (omega arith)) j r
     ∙ set-outside R w place address (λ q. far 0 (omega arith) (subst R (let z : place ≡ place + 0 = omega arith in z) q)) j r
 
 pub dpc-shows : (w : List ℕ) (place address : ℕ) (d : NewDpc) → place + 11 ≤ length w → DpcAt (putDpc w place address d) place address d
 unfolding putDpc putIdle putImage
 dpc-shows w place address d long = record {
   address-word =
-      read-other w₁₀ (place + 10) place (d .context) (λ e. omega arith)
-      ∙ read-other w₉ (place + 9) place (d .routine) (λ e. omega arith)
-      ∙ read-other w₈ (place + 8) place (d .mapped) (λ e. omega arith)
-      ∙ read-other w₇ (place + 7) place (d .size) (λ e. omega arith)
-      ∙ read-other w₆ (place + 6) place (d .base) (λ e. omega arith)
-      ∙ read-other w₅ (place + 5) place (d .backing) (λ e. omega arith)
-      ∙ read-other w₄ (place + 4) place (d .architecture) (λ e. omega arith)
-      ∙ read-other w₃ (place + 3) place 0 (λ e. omega arith)
-      ∙ read-other w₂ (place + 2) place 0 (λ e. omega arith)
-      ∙ read-other w₁ (place + 1) place 0 (λ e. omega arith)
+      read-other w₁₀ (place + at.context) place (d .context) (λ e. omega arith)
+      ∙ read-other w₉ (place + at.routine) place (d .routine) (λ e. omega arith)
+      ∙ read-other w₈ (place + at.dpcMapped) place (d .mapped) (λ e. omega arith)
+      ∙ read-other w₇ (place + at.dpcSize) place (d .size) (λ e. omega arith)
+      ∙ read-other w₆ (place + at.dpcBase) place (d .base) (λ e. omega arith)
+      ∙ read-other w₅ (place + at.dpcBacking) place (d .backing) (λ e. omega arith)
+      ∙ read-other w₄ (place + at.dpcArchitecture) place (d .architecture) (λ e. omega arith)
+      ∙ read-other w₃ (place + at.namedBy) place 0 (λ e. omega arith)
+      ∙ read-other w₂ (place + at.nextQueued) place 0 (λ e. omega arith)
+      ∙ read-other w₁ (place + at.phase) place 0 (λ e. omega arith)
       ∙ read-same w place address (omega arith);
   phase-word =
-      read-other w₁₀ (place + 10) (place + 1) (d .context) (λ e. omega arith)
-      ∙ read-other w₉ (place + 9) (place + 1) (d .routine) (λ e. omega arith)
-      ∙ read-other w₈ (place + 8) (place + 1) (d .mapped) (λ e. omega arith)
-      ∙ read-other w₇ (place + 7) (place + 1) (d .size) (λ e. omega arith)
-      ∙ read-other w₆ (place + 6) (place + 1) (d .base) (λ e. omega arith)
-      ∙ read-other w₅ (place + 5) (place + 1) (d .backing) (λ e. omega arith)
-      ∙ read-other w₄ (place + 4) (place + 1) (d .architecture) (λ e. omega arith)
-      ∙ read-other w₃ (place + 3) (place + 1) 0 (λ e. omega arith)
-      ∙ read-other w₂ (place + 2) (place + 1) 0 (λ e. omega arith)
-      ∙ read-same w₁ (place + 1) 0 (omega (arith, l₁));
+      read-other w₁₀ (place + at.context) (place + at.phase) (d .context) (λ e. omega arith)
+      ∙ read-other w₉ (place + at.routine) (place + at.phase) (d .routine) (λ e. omega arith)
+      ∙ read-other w₈ (place + at.dpcMapped) (place + at.phase) (d .mapped) (λ e. omega arith)
+      ∙ read-other w₇ (place + at.dpcSize) (place + at.phase) (d .size) (λ e. omega arith)
+      ∙ read-other w₆ (place + at.dpcBase) (place + at.phase) (d .base) (λ e. omega arith)
+      ∙ read-other w₅ (place + at.dpcBacking) (place + at.phase) (d .backing) (λ e. omega arith)
+      ∙ read-other w₄ (place + at.dpcArchitecture) (place + at.phase) (d .architecture) (λ e. omega arith)
+      ∙ read-other w₃ (place + at.namedBy) (place + at.phase) 0 (λ e. omega arith)
+      ∙ read-other w₂ (place + at.nextQueued) (place + at.phase) 0 (λ e. omega arith)
+      ∙ read-same w₁ (place + at.phase) 0 (omega (arith, l₁));
   link-word =
-      read-other w₁₀ (place + 10) (place + 2) (d .context) (λ e. omega arith)
-      ∙ read-other w₉ (place + 9) (place + 2) (d .routine) (λ e. omega arith)
-      ∙ read-other w₈ (place + 8) (place + 2) (d .mapped) (λ e. omega arith)
-      ∙ read-other w₇ (place + 7) (place + 2) (d .size) (λ e. omega arith)
-      ∙ read-other w₆ (place + 6) (place + 2) (d .base) (λ e. omega arith)
-      ∙ read-other w₅ (place + 5) (place + 2) (d .backing) (λ e. omega arith)
-      ∙ read-other w₄ (place + 4) (place + 2) (d .architecture) (λ e. omega arith)
-      ∙ read-other w₃ (place + 3) (place + 2) 0 (λ e. omega arith)
-      ∙ read-same w₂ (place + 2) 0 (omega (arith, l₁, l₂));
+      read-other w₁₀ (place + at.context) (place + at.nextQueued) (d .context) (λ e. omega arith)
+      ∙ read-other w₉ (place + at.routine) (place + at.nextQueued) (d .routine) (λ e. omega arith)
+      ∙ read-other w₈ (place + at.dpcMapped) (place + at.nextQueued) (d .mapped) (λ e. omega arith)
+      ∙ read-other w₇ (place + at.dpcSize) (place + at.nextQueued) (d .size) (λ e. omega arith)
+      ∙ read-other w₆ (place + at.dpcBase) (place + at.nextQueued) (d .base) (λ e. omega arith)
+      ∙ read-other w₅ (place + at.dpcBacking) (place + at.nextQueued) (d .backing) (λ e. omega arith)
+      ∙ read-other w₄ (place + at.dpcArchitecture) (place + at.nextQueued) (d .architecture) (λ e. omega arith)
+      ∙ read-other w₃ (place + at.namedBy) (place + at.nextQueued) 0 (λ e. omega arith)
+      ∙ read-same w₂ (place + at.nextQueued) 0 (omega (arith, l₁, l₂));
   timer-word =
-      read-other w₁₀ (place + 10) (place + 3) (d .context) (λ e. omega arith)
-      ∙ read-other w₉ (place + 9) (place + 3) (d .routine) (λ e. omega arith)
-      ∙ read-other w₈ (place + 8) (place + 3) (d .mapped) (λ e. omega arith)
-      ∙ read-other w₇ (place + 7) (place + 3) (d .size) (λ e. omega arith)
-      ∙ read-other w₆ (place + 6) (place + 3) (d .base) (λ e. omega arith)
-      ∙ read-other w₅ (place + 5) (place + 3) (d .backing) (λ e. omega arith)
-      ∙ read-other w₄ (place + 4) (place + 3) (d .architecture) (λ e. omega arith)
-      ∙ read-same w₃ (place + 3) 0 (omega (arith, l₁, l₂, l₃));
+      read-other w₁₀ (place + at.context) (place + at.namedBy) (d .context) (λ e. omega arith)
+      ∙ read-other w₉ (place + at.routine) (place + at.namedBy) (d .routine) (λ e. omega arith)
+      ∙ read-other w₈ (place + at.dpcMapped) (place + at.namedBy) (d .mapped) (λ e. omega arith)
+      ∙ read-other w₇ (place + at.dpcSize) (place + at.namedBy) (d .size) (λ e. omega arith)
+      ∙ read-other w₆ (place + at.dpcBase) (place + at.namedBy) (d .base) (λ e. omega arith)
+      ∙ read-other w₅ (place + at.dpcBacking) (place + at.namedBy) (d .backing) (λ e. omega arith)
+      ∙ read-other w₄ (place + at.dpcArchitecture) (place + at.namedBy) (d .architecture) (λ e. omega arith)
+      ∙ read-same w₃ (place + at.namedBy) 0 (omega (arith, l₁, l₂, l₃));
   architecture-word =
-      read-other w₁₀ (place + 10) (place + 4) (d .context) (λ e. omega arith)
-      ∙ read-other w₉ (place + 9) (place + 4) (d .routine) (λ e. omega arith)
-      ∙ read-other w₈ (place + 8) (place + 4) (d .mapped) (λ e. omega arith)
-      ∙ read-other w₇ (place + 7) (place + 4) (d .size) (λ e. omega arith)
-      ∙ read-other w₆ (place + 6) (place + 4) (d .base) (λ e. omega arith)
-      ∙ read-other w₅ (place + 5) (place + 4) (d .backing) (λ e. omega arith)
-      ∙ read-same w₄ (place + 4) (d .architecture) (omega (arith, l₁, l₂, l₃, l₄));
+      read-other w₁₀ (place + at.context) (place + at.dpcArchitecture) (d .context) (λ e. omega arith)
+      ∙ read-other w₉ (place + at.routine) (place + at.dpcArchitecture) (d .routine) (λ e. omega arith)
+      ∙ read-other w₈ (place + at.dpcMapped) (place + at.dpcArchitecture) (d .mapped) (λ e. omega arith)
+      ∙ read-other w₇ (place + at.dpcSize) (place + at.dpcArchitecture) (d .size) (λ e. omega arith)
+      ∙ read-other w₆ (place + at.dpcBase) (place + at.dpcArchitecture) (d .base) (λ e. omega arith)
+      ∙ read-other w₅ (place + at.dpcBacking) (place + at.dpcArchitecture) (d .backing) (λ e. omega arith)
+      ∙ read-same w₄ (place + at.dpcArchitecture) (d .architecture) (omega (arith, l₁, l₂, l₃, l₄));
   backing-word =
-      read-other w₁₀ (place + 10) (place + 5) (d .context) (λ e. omega arith)
-      ∙ read-other w₉ (place + 9) (place + 5) (d .routine) (λ e. omega arith)
-      ∙ read-other w₈ (place + 8) (place + 5) (d .mapped) (λ e. omega arith)
-      ∙ read-other w₇ (place + 7) (place + 5) (d .size) (λ e. omega arith)
-      ∙ read-other w₆ (place + 6) (place + 5) (d .base) (λ e. omega arith)
-      ∙ read-same w₅ (place + 5) (d .backing) (omega (arith, l₁, l₂, l₃, l₄, l₅));
+      read-other w₁₀ (place + at.context) (place + at.dpcBacking) (d .context) (λ e. omega arith)
+      ∙ read-other w₉ (place + at.routine) (place + at.dpcBacking) (d .routine) (λ e. omega arith)
+      ∙ read-other w₈ (place + at.dpcMapped) (place + at.dpcBacking) (d .mapped) (λ e. omega arith)
+      ∙ read-other w₇ (place + at.dpcSize) (place + at.dpcBacking) (d .size) (λ e. omega arith)
+      ∙ read-other w₆ (place + at.dpcBase) (place + at.dpcBacking) (d .base) (λ e. omega arith)
+      ∙ read-same w₅ (place + at.dpcBacking) (d .backing) (omega (arith, l₁, l₂, l₃, l₄, l₅));
   base-word =
-      read-other w₁₀ (place + 10) (place + 6) (d .context) (λ e. omega arith)
-      ∙ read-other w₉ (place + 9) (place + 6) (d .routine) (λ e. omega arith)
-      ∙ read-other w₈ (place + 8) (place + 6) (d .mapped) (λ e. omega arith)
-      ∙ read-other w₇ (place + 7) (place + 6) (d .size) (λ e. omega arith)
-      ∙ read-same w₆ (place + 6) (d .base) (omega (arith, l₁, l₂, l₃, l₄, l₅, l₆));
+      read-other w₁₀ (place + at.context) (place + at.dpcBase) (d .context) (λ e. omega arith)
+      ∙ read-other w₉ (place + at.routine) (place + at.dpcBase) (d .routine) (λ e. omega arith)
+      ∙ read-other w₈ (place + at.dpcMapped) (place + at.dpcBase) (d .mapped) (λ e. omega arith)
+      ∙ read-other w₇ (place + at.dpcSize) (place + at.dpcBase) (d .size) (λ e. omega arith)
+      ∙ read-same w₆ (place + at.dpcBase) (d .base) (omega (arith, l₁, l₂, l₃, l₄, l₅, l₆));
   size-word =
-      read-other w₁₀ (place + 10) (place + 7) (d .context) (λ e. omega arith)
-      ∙ read-other w₉ (place + 9) (place + 7) (d .routine) (λ e. omega arith)
-      ∙ read-other w₈ (place + 8) (place + 7) (d .mapped) (λ e. omega arith)
-      ∙ read-same w₇ (place + 7) (d .size) (omega (arith, l₁, l₂, l₃, l₄, l₅, l₆, l₇));
+      read-other w₁₀ (place + at.context) (place + at.dpcSize) (d .context) (λ e. omega arith)
+      ∙ read-other w₉ (place + at.routine) (place + at.dpcSize) (d .routine) (λ e. omega arith)
+      ∙ read-other w₈ (place + at.dpcMapped) (place + at.dpcSize) (d .mapped) (λ e. omega arith)
+      ∙ read-same w₇ (place + at.dpcSize) (d .size) (omega (arith, l₁, l₂, l₃, l₄, l₅, l₆, l₇));
   mapped-word =
-      read-other w₁₀ (place + 10) (place + 8) (d .context) (λ e. omega arith)
-      ∙ read-other w₉ (place + 9) (place + 8) (d .routine) (λ e. omega arith)
-      ∙ read-same w₈ (place + 8) (d .mapped) (omega (arith, l₁, l₂, l₃, l₄, l₅, l₆, l₇, l₈));
+      read-other w₁₀ (place + at.context) (place + at.dpcMapped) (d .context) (λ e. omega arith)
+      ∙ read-other w₉ (place + at.routine) (place + at.dpcMapped) (d .routine) (λ e. omega arith)
+      ∙ read-same w₈ (place + at.dpcMapped) (d .mapped) (omega (arith, l₁, l₂, l₃, l₄, l₅, l₆, l₇, l₈));
   routine-word =
-      read-other w₁₀ (place + 10) (place + 9) (d .context) (λ e. omega arith)
-      ∙ read-same w₉ (place + 9) (d .routine) (omega (arith, l₁, l₂, l₃, l₄, l₅, l₆, l₇, l₈, l₉));
+      read-other w₁₀ (place + at.context) (place + at.routine) (d .context) (λ e. omega arith)
+      ∙ read-same w₉ (place + at.routine) (d .routine) (omega (arith, l₁, l₂, l₃, l₄, l₅, l₆, l₇, l₈, l₉));
   context-word =
-      read-same w₁₀ (place + 10) (d .context) (omega (arith, l₁, l₂, l₃, l₄, l₅, l₆, l₇, l₈, l₉, l₁₀));
+      read-same w₁₀ (place + at.context) (d .context) (omega (arith, l₁, l₂, l₃, l₄, l₅, l₆, l₇, l₈, l₉, l₁₀));
 }
   where
     w₁ : List ℕ
     w₁ = set w place address
 
     w₂ : List ℕ
-    w₂ = set w₁ (place + 1) 0
+    w₂ = set w₁ (place + at.phase) 0
 
     w₃ : List ℕ
-    w₃ = set w₂ (place + 2) 0
+    w₃ = set w₂ (place + at.nextQueued) 0
 
     w₄ : List ℕ
-    w₄ = set w₃ (place + 3) 0
+    w₄ = set w₃ (place + at.namedBy) 0
 
     w₅ : List ℕ
-    w₅ = set w₄ (place + 4) (d .architecture)
+    w₅ = set w₄ (place + at.dpcArchitecture) (d .architecture)
 
     w₆ : List ℕ
-    w₆ = set w₅ (place + 5) (d .backing)
+    w₆ = set w₅ (place + at.dpcBacking) (d .backing)
 
     w₇ : List ℕ
-    w₇ = set w₆ (place + 6) (d .base)
+    w₇ = set w₆ (place + at.dpcBase) (d .base)
 
     w₈ : List ℕ
-    w₈ = set w₇ (place + 7) (d .size)
+    w₈ = set w₇ (place + at.dpcSize) (d .size)
 
     w₉ : List ℕ
-    w₉ = set w₈ (place + 8) (d .mapped)
+    w₉ = set w₈ (place + at.dpcMapped) (d .mapped)
 
     w₁₀ : List ℕ
-    w₁₀ = set w₉ (place + 9) (d .routine)
+    w₁₀ = set w₉ (place + at.routine) (d .routine)
 
     l₁ : length w₁ ≡ length w
     l₁ = length-set w place address
 
     l₂ : length w₂ ≡ length w₁
-    l₂ = length-set w₁ (place + 1) 0
+    l₂ = length-set w₁ (place + at.phase) 0
 
     l₃ : length w₃ ≡ length w₂
-    l₃ = length-set w₂ (place + 2) 0
+    l₃ = length-set w₂ (place + at.nextQueued) 0
 
     l₄ : length w₄ ≡ length w₃
-    l₄ = length-set w₃ (place + 3) 0
+    l₄ = length-set w₃ (place + at.namedBy) 0
 
     l₅ : length w₅ ≡ length w₄
-    l₅ = length-set w₄ (place + 4) (d .architecture)
+    l₅ = length-set w₄ (place + at.dpcArchitecture) (d .architecture)
 
     l₆ : length w₆ ≡ length w₅
-    l₆ = length-set w₅ (place + 5) (d .backing)
+    l₆ = length-set w₅ (place + at.dpcBacking) (d .backing)
 
     l₇ : length w₇ ≡ length w₆
-    l₇ = length-set w₆ (place + 6) (d .base)
+    l₇ = length-set w₆ (place + at.dpcBase) (d .base)
 
     l₈ : length w₈ ≡ length w₇
-    l₈ = length-set w₇ (place + 7) (d .size)
+    l₈ = length-set w₇ (place + at.dpcSize) (d .size)
 
     l₉ : length w₉ ≡ length w₈
-    l₉ = length-set w₈ (place + 8) (d .mapped)
+    l₉ = length-set w₈ (place + at.dpcMapped) (d .mapped)
 
     l₁₀ : length w₁₀ ≡ length w₉
-    l₁₀ = length-set w₉ (place + 9) (d .routine)
+    l₁₀ = length-set w₉ (place + at.routine) (d .routine)
 
 -- a DPC's words depend on its record
 pub dpc-local : (address : ℕ) → Local Whole (λ w place d. DpcAt w place address d)
@@ -220,7 +221,7 @@ dpc-local address w w′ a b d c h = record {
 
 -- ---- a DPC made
 
-module _ {A : Type 0} (key : A → ℕ) (w : List ℕ) (base : ℕ) (xs : List A) (low : base ≤ 1000000) (high : 256 ≤ base) (at : dpcsBase w ≡ base) (count : getD w 5 0 ≡ length xs)
+module _ {A : Type 0} (key : A → ℕ) (w : List ℕ) (base : ℕ) (xs : List A) (low : base ≤ 1000000) (high : at.headerSize ≤ base) (at : dpcsBase w ≡ base) (count : getD w at.dpcs 0 ≡ length xs)
     (rising : Rising key xs) (keys : Holds (Keyed key) w base xs) (x : A) (d : NewDpc) where
   module _ (few : length xs < 4096) where
     inserted-is : inserted w (key x) d
@@ -268,7 +269,7 @@ module _ {A : Type 0} (key : A → ℕ) (w : List ℕ) (base : ℕ) (xs : List A
     length-inserted = ap length inserted-three ∙ length-set w₃ 5 (length xs + 1) ∙ len₃
 
     -- only the count, the queue's first, last and links, and the records from the position on are written
-    pub inserted-outside : (R : ℕ → Type 0) → (R 5 → ⊥) → (R 23 → ⊥) → (R 24 → ⊥) → ((t : ℕ) → t < length xs → R (base + 32 * t + 2) → ⊥)
+    pub inserted-outside : (R : ℕ → Type 0) → (R 5 → ⊥) → (R 23 → ⊥) → (R 24 → ⊥) → ((t : ℕ) → t < length xs → R (base + 32 * t + at.nextQueued) → ⊥)
         → ((p : ℕ) → base + 32 * below key (key x) xs ≤ p → p < base + 32 * length xs + 32 → R p → ⊥) → Same R w (inserted w (key x) d)
     unfolding w₁ w₂ w₃
     inserted-outside R five first last links far j r =
@@ -279,8 +280,8 @@ module _ {A : Type 0} (key : A → ℕ) (w : List ℕ) (base : ℕ) (xs : List A
         ∙ raised-links-outside w base (length xs) (below key (key x) xs) at high (omega arith) R first last links j r
 
     module _ (long : base + 32 * length xs + 32 ≤ length w) where
-      pub inserted-count : getD (inserted w (key x) d) 5 0 ≡ length xs + 1
-      inserted-count = ap (λ (v : List ℕ). getD v 5 0) inserted-three ∙ read-same w₃ 5 (length xs + 1) (omega (arith, len₃))
+      pub inserted-count : getD (inserted w (key x) d) at.dpcs 0 ≡ length xs + 1
+      inserted-count = ap (λ (v : List ℕ). getD v at.dpcs 0) inserted-three ∙ read-same w₃ 5 (length xs + 1) (omega (arith, len₃))
 
       pub inserted-shows : DpcAt (inserted w (key x) d) (base + 32 * below key (key x) xs) (key x) d
       unfolding w₂ w₃
@@ -299,32 +300,32 @@ module _ {A : Type 0} (key : A → ℕ) (w : List ℕ) (base : ℕ) (xs : List A
           (λ j h n k l u. inserted-apart (base + 32 * j + k) (λ e. omega arith) (λ i m e. n (omega arith))))
 
       -- the queue's first, its last and the links: one more where the number is behind the new one
-      pub inserted-first : getD (inserted w (key x) d) 23 0 ≡ raisedNumber (getD w 23 0) (below key (key x) xs)
+      pub inserted-first : getD (inserted w (key x) d) at.queueFirst 0 ≡ raisedNumber (getD w at.queueFirst 0) (below key (key x) xs)
       unfolding w₁ w₂
       inserted-first =
           inserted-apart 23 (λ e. omega arith) (λ i m e. omega arith)
           ∙ opened-outside w₁ base (length xs) (below key (key x) xs) low (omega arith) (below-le key (key x) xs) (λ p. p ≡ 23) (λ p h l e. omega arith) 23 refl
           ∙ raised-first w base (length xs) (below key (key x) xs) at high (omega arith) (omega arith) (omega arith)
 
-      pub inserted-last : getD (inserted w (key x) d) 24 0 ≡ raisedNumber (getD w 24 0) (below key (key x) xs)
+      pub inserted-last : getD (inserted w (key x) d) at.queueLast 0 ≡ raisedNumber (getD w at.queueLast 0) (below key (key x) xs)
       unfolding w₁ w₂
       inserted-last =
           inserted-apart 24 (λ e. omega arith) (λ i m e. omega arith)
           ∙ opened-outside w₁ base (length xs) (below key (key x) xs) low (omega arith) (below-le key (key x) xs) (λ p. p ≡ 24) (λ p h l e. omega arith) 24 refl
           ∙ raised-last w base (length xs) (below key (key x) xs) at high (omega arith) (omega arith) (omega arith)
 
-      pub inserted-link-before : (j : ℕ) → j < below key (key x) xs → getD (inserted w (key x) d) (base + 32 * j + 2) 0 ≡ raisedNumber (getD w (base + 32 * j + 2) 0) (below key (key x) xs)
+      pub inserted-link-before : (j : ℕ) → j < below key (key x) xs → getD (inserted w (key x) d) (base + 32 * j + at.nextQueued) 0 ≡ raisedNumber (getD w (base + 32 * j + at.nextQueued) 0) (below key (key x) xs)
       unfolding w₁ w₂
       inserted-link-before j h =
-          inserted-apart (base + 32 * j + 2) (λ e. omega arith) (λ i m e. omega arith)
+          inserted-apart (base + 32 * j + at.nextQueued) (λ e. omega arith) (λ i m e. omega arith)
           ∙ opened-before w₁ base (length xs) (below key (key x) xs) low (omega arith) (below-le key (key x) xs) j 2 (omega arith) (omega arith)
           ∙ raised-link w base (length xs) (below key (key x) xs) at high (omega arith) (omega arith) (omega arith) j (omega (arith, below-le key (key x) xs))
 
       pub inserted-link-behind : (j : ℕ) → below key (key x) xs ≤ j → j < length xs
-          → getD (inserted w (key x) d) (base + 32 * suc j + 2) 0 ≡ raisedNumber (getD w (base + 32 * j + 2) 0) (below key (key x) xs)
+          → getD (inserted w (key x) d) (base + 32 * suc j + at.nextQueued) 0 ≡ raisedNumber (getD w (base + 32 * j + at.nextQueued) 0) (below key (key x) xs)
       unfolding w₁ w₂
       inserted-link-behind j h l =
-          inserted-apart (base + 32 * suc j + 2) (λ e. omega arith) (λ i m e. omega arith)
+          inserted-apart (base + 32 * suc j + at.nextQueued) (λ e. omega arith) (λ i m e. omega arith)
           ∙ opened-behind w₁ base (length xs) (below key (key x) xs) low (omega arith) (below-le key (key x) xs) (omega (arith, length-raised-links w (length xs) (below key (key x) xs))) j 2 h l (omega arith)
           ∙ raised-link w base (length xs) (below key (key x) xs) at high (omega arith) (omega arith) (omega arith) j l
 
@@ -352,14 +353,14 @@ module _ {A : Type 0} (key : A → ℕ) (w : List ℕ) (base : ℕ) (xs : List A
   pub entered-new : length xs < 4096 → find key xs (key x) ≡ none → entered w (key x) d ≡ inserted w (key x) d
   unfolding entered dpcFound
   entered-new few h =
-      ap (λ (c : Bool). cond c (inserted w (key x) d) (putDpc w (foundAt w (dpcsBase w) (getD w 5 0) (key x)) (key x) d))
-      (eq-eqb (foundAt w (dpcsBase w) (getD w 5 0) (key x)) 0
+      ap (λ (c : Bool). cond c (inserted w (key x) d) (putDpc w (foundAt w (dpcsBase w) (getD w at.dpcs 0) (key x)) (key x) d))
+      (eq-eqb (foundAt w (dpcsBase w) (getD w at.dpcs 0) (key x)) 0
       (ap₂ (λ (p n : ℕ). foundAt w p n (key x)) at count ∙ missing-is key w base xs low (omega arith) rising keys (length xs) (key x) refl h))
 
   pub entered-known : length xs ≤ 4096 → (z : A) → find key xs (key x) ≡ some z → entered w (key x) d ≡ putDpc w (base + 32 * below key (key x) xs) (key x) d
   unfolding entered dpcFound
   entered-known few z h =
-      let e : foundAt w (dpcsBase w) (getD w 5 0) (key x) ≡ base + 32 * below key (key x) xs =
+      let e : foundAt w (dpcsBase w) (getD w at.dpcs 0) (key x) ≡ base + 32 * below key (key x) xs =
       ap₂ (λ (p n : ℕ). foundAt w p n (key x)) at count ∙ found-is key w base xs low (omega arith) rising keys (length xs) (key x) refl z h in
       ap (λ (p : ℕ). cond (eqb p 0) (inserted w (key x) d) (putDpc w p (key x) d)) e
       ∙ ap (λ (c : Bool). cond c (inserted w (key x) d) (putDpc w (base + 32 * below key (key x) xs) (key x) d)) (ne-eqb (base + 32 * below key (key x) xs) 0 (λ q. omega arith))
@@ -384,15 +385,15 @@ module _ {A : Type 0} (key : A → ℕ) (w : List ℕ) (base : ℕ) (xs : List A
     length-entered = cases (λ v. length v ≡ length w) (λ e. length-inserted (omega (arith, size-new e))) (λ z e. length-dpc w (base + 32 * below key (key x) xs) (key x) d)
 
     -- only the count, the queue's first, last and links, and the records from the position on are written
-    pub entered-outside : (R : ℕ → Type 0) → (R 5 → ⊥) → (R 23 → ⊥) → (R 24 → ⊥) → ((t : ℕ) → t < length xs → R (base + 32 * t + 2) → ⊥)
+    pub entered-outside : (R : ℕ → Type 0) → (R 5 → ⊥) → (R 23 → ⊥) → (R 24 → ⊥) → ((t : ℕ) → t < length xs → R (base + 32 * t + at.nextQueued) → ⊥)
         → ((p : ℕ) → base + 32 * below key (key x) xs ≤ p → p < base + 32 * length (put key x xs) → R p → ⊥) → Same R w (entered w (key x) d)
     entered-outside R five first last links far = cases (λ v. Same R w v)
         (λ e. inserted-outside (omega (arith, size-new e)) R five first last links (λ p h l. far p h (omega (arith, size-new e))))
         (λ z e. dpc-outside R w (base + 32 * below key (key x) xs) (key x) d
         (λ k h. far (base + 32 * below key (key x) xs + k) (omega arith) (omega (arith, length-put-known key x xs rising z e, find-in key xs rising (key x) z e))))
 
-    pub entered-count : getD (entered w (key x) d) 5 0 ≡ length (put key x xs)
-    entered-count = cases (λ v. getD v 5 0 ≡ length (put key x xs))
+    pub entered-count : getD (entered w (key x) d) at.dpcs 0 ≡ length (put key x xs)
+    entered-count = cases (λ v. getD v at.dpcs 0 ≡ length (put key x xs))
         (λ e. inserted-count (omega (arith, size-new e)) (omega (arith, size-new e)) ∙ sym (size-new e))
         (λ z e. dpc-outside (λ p. p ≡ 5) w (base + 32 * below key (key x) xs) (key x) d (λ k h q. omega arith) 5 refl ∙ count ∙ sym (length-put-known key x xs rising z e))
 

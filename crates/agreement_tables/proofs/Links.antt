@@ -7,6 +7,7 @@ use native.Mathlib.Omega.{arith}
 use native.Mathlib.Decide.{ℕ-discrete}
 use borrow.Author.Tests.{ne-eqb, le-leb}
 use lib.ListN.{getD, set, length, length-set}
+use Rattle.words.specs.Layout as at
 use Rattle.objects.specs.Objects.{dpcsBase}
 use Rattle.chains.specs.declared.Chain.{Chain}
 use Rattle.chains.specs.Chain.{linkAt}
@@ -17,36 +18,36 @@ use Rattle.agreement_tables.proofs.Moves.{read-other, read-same, set-ou
 
 -- ---- where the links stand
 
-pub queue-first : (base : ℕ) → linkAt (queueOf base) 0 ≡ 23
+pub queue-first : (base : ℕ) → linkAt (queueOf base) 0 ≡ at.queueFirst
 unfolding linkAt
 queue-first base = refl
 
 -- the link of DPC `i + 1` is word 2 of record `i`
-pub queue-link : (base : ℕ) → 256 ≤ base → (i : ℕ) → i < 4096 → linkAt (queueOf base) (suc i) ≡ base + 32 * i + 2
+pub queue-link : (base : ℕ) → at.headerSize ≤ base → (i : ℕ) → i < 4096 → linkAt (queueOf base) (suc i) ≡ base + 32 * i + 2
 unfolding linkAt
 queue-link base high i h =
-    ap₂ (λ (a b : Bool). cond a 23 (cond b (base - 30 + 32 * suc i) 23)) (ne-eqb (suc i) 0 (λ e. omega arith)) (le-leb (suc i) 4096 (omega arith))
-    ∙ (let z : base - 30 + 32 * suc i ≡ base + 32 * i + 2 = omega arith in z)
+    ap₂ (λ (a b : Bool). cond a at.queueFirst (cond b (base - at.queueLinkBefore + 32 * suc i) at.queueFirst)) (ne-eqb (suc i) 0 (λ e. omega arith)) (le-leb (suc i) 4096 (omega arith))
+    ∙ (let z : base - at.queueLinkBefore + 32 * suc i ≡ base + 32 * i + 2 = omega arith in z)
 
 pub queue-is : (w : List ℕ) (base : ℕ) → dpcsBase w ≡ base → queueChain w ≡ queueOf base
 unfolding queueChain
 queue-is w base at = ap queueOf at
 
 -- by cases: the first, or word 2 of a record
-pub queue-place : (base : ℕ) → 256 ≤ base → (Q : ℕ → Type 0) (y : ℕ) → y ≤ 4096 → (y ≡ 0 → Q 23) → ((t : ℕ) → y ≡ suc t → Q (base + 32 * t + 2)) → Q (linkAt (queueOf base) y)
+pub queue-place : (base : ℕ) → at.headerSize ≤ base → (Q : ℕ → Type 0) (y : ℕ) → y ≤ 4096 → (y ≡ 0 → Q 23) → ((t : ℕ) → y ≡ suc t → Q (base + 32 * t + 2)) → Q (linkAt (queueOf base) y)
 queue-place base high Q zero h first link = subst Q (sym (queue-first base)) (first refl)
 queue-place base high Q (suc t) h first link = subst Q (sym (queue-link base high t (omega arith))) (link t refl)
 
-pub queue-apart : (base : ℕ) → 256 ≤ base → (y z : ℕ) → y ≤ 4096 → z ≤ 4096 → linkAt (queueOf base) y ≡ linkAt (queueOf base) z → y ≡ z
+pub queue-apart : (base : ℕ) → at.headerSize ≤ base → (y z : ℕ) → y ≤ 4096 → z ≤ 4096 → linkAt (queueOf base) y ≡ linkAt (queueOf base) z → y ≡ z
 queue-apart base high y z hy hz = queue-place base high (λ p. p ≡ linkAt (queueOf base) z → y ≡ z) y hy
     (λ e. queue-place base high (λ p. 23 ≡ p → y ≡ z) z hz (λ q i. e ∙ sym q) (λ t q i. absurd (omega arith)))
     (λ t e. queue-place base high (λ p. base + 32 * t + 2 ≡ p → y ≡ z) z hz (λ q i. absurd (omega arith)) (λ u q i. omega arith))
 
-pub link-first : (w : List ℕ) → linkAt (queueChain w) 0 ≡ 23
+pub link-first : (w : List ℕ) → linkAt (queueChain w) 0 ≡ at.queueFirst
 unfolding linkAt queueChain
 link-first w = refl
 
-pub link-of : (w : List ℕ) (base : ℕ) → dpcsBase w ≡ base → 256 ≤ base → (i : ℕ) → i < 4096 → linkAt (queueChain w) (suc i) ≡ base + 32 * i + 2
+pub link-of : (w : List ℕ) (base : ℕ) → dpcsBase w ≡ base → at.headerSize ≤ base → (i : ℕ) → i < 4096 → linkAt (queueChain w) (suc i) ≡ base + 32 * i + 2
 link-of w base at high i h = ap (λ (c : Chain). linkAt c (suc i)) (queue-is w base at) ∙ queue-link base high i h
 
 -- ---- `m` links from that of `k` on
@@ -91,17 +92,17 @@ pub length-raised-links : (w : List ℕ) (n i : ℕ) → length (linksRaised w n
 unfolding linksRaised numberRaised
 length-raised-links w n i =
     let w₁ = linksRaisedIn (n + 1) w (queueChain w) 0 i in
-    length-set w₁ 24 (raisedNumber (getD w₁ 24 0) i) ∙ length-links (queueChain w) i (n + 1) w 0
+    length-set w₁ 24 (raisedNumber (getD w₁ at.queueLast 0) i) ∙ length-links (queueChain w) i (n + 1) w 0
 
-module _ (w : List ℕ) (base n i : ℕ) (at : dpcsBase w ≡ base) (high : 256 ≤ base) (few : n ≤ 4096) where
+module _ (w : List ℕ) (base n i : ℕ) (at : dpcsBase w ≡ base) (high : at.headerSize ≤ base) (few : n ≤ 4096) where
   w₁ : List ℕ
   w₁ = linksRaisedIn (n + 1) w (queueChain w) 0 i
 
   -- only word 2 of the records, the queue's first and its last are written
-  pub raised-links-outside : (R : ℕ → Type 0) → (R 23 → ⊥) → (R 24 → ⊥) → ((t : ℕ) → t < n → R (base + 32 * t + 2) → ⊥) → Same R w (linksRaised w n i)
+  pub raised-links-outside : (R : ℕ → Type 0) → (R 23 → ⊥) → (R 24 → ⊥) → ((t : ℕ) → t < n → R (base + 32 * t + at.nextQueued) → ⊥) → Same R w (linksRaised w n i)
   unfolding linksRaised numberRaised w₁
   raised-links-outside R first last far j r =
-      set-outside R w₁ 24 (raisedNumber (getD w₁ 24 0) i) last j r ∙ links-outside (queueChain w) i (n + 1) R w 0 (λ t a b. go t b) j r
+      set-outside R w₁ 24 (raisedNumber (getD w₁ at.queueLast 0) i) last j r ∙ links-outside (queueChain w) i (n + 1) R w 0 (λ t a b. go t b) j r
     where
       go : (t : ℕ) → t < 0 + (n + 1) → R (linkAt (queueChain w) t) → ⊥
       go zero h q = first (subst R (link-first w) q)
@@ -124,7 +125,7 @@ module _ (w : List ℕ) (base n i : ℕ) (at : dpcsBase w ≡ base) (high : 256 
     apart (suc t) zero e = absurd (omega arith)
     apart (suc t) (suc u) e = omega arith
 
-    inside : (t : ℕ) → t < n + 1 → (place t < length w) × (place t ≡ 24 → ⊥)
+    inside : (t : ℕ) → t < n + 1 → (place t < length w) × (place t ≡ at.queueLast → ⊥)
     unfolding place
     inside zero h = (omega arith, λ e. omega arith)
     inside (suc t) h = (omega arith, λ e. omega arith)
@@ -132,21 +133,21 @@ module _ (w : List ℕ) (base n i : ℕ) (at : dpcsBase w ≡ base) (high : 256 
     raised-at : (t : ℕ) → t < n + 1 → getD (linksRaised w n i) (linkAt (queueChain w) t) 0 ≡ raisedNumber (getD w (linkAt (queueChain w) t) 0) i
     unfolding linksRaised numberRaised w₁
     raised-at t h =
-        read-other w₁ 24 (linkAt (queueChain w) t) (raisedNumber (getD w₁ 24 0) i) (λ e. inside t h .1 (sym (places t h) ∙ e))
+        read-other w₁ 24 (linkAt (queueChain w) t) (raisedNumber (getD w₁ at.queueLast 0) i) (λ e. inside t h .1 (sym (places t h) ∙ e))
         ∙ links-show (queueChain w) i (n + 1) w 0 (λ t u a b e. apart t u (sym (places t (omega arith)) ∙ e ∙ places u (omega arith)))
         (λ t a. let l = inside t (omega arith) .0 in omega (arith, places t (omega arith))) t (omega arith) (omega arith)
 
-    pub raised-first : getD (linksRaised w n i) 23 0 ≡ raisedNumber (getD w 23 0) i
+    pub raised-first : getD (linksRaised w n i) at.queueFirst 0 ≡ raisedNumber (getD w at.queueFirst 0) i
     raised-first = ap (λ (p : ℕ). getD (linksRaised w n i) p 0) (sym (link-first w)) ∙ raised-at 0 (omega arith) ∙ ap (λ (p : ℕ). raisedNumber (getD w p 0) i) (link-first w)
 
-    pub raised-last : getD (linksRaised w n i) 24 0 ≡ raisedNumber (getD w 24 0) i
+    pub raised-last : getD (linksRaised w n i) at.queueLast 0 ≡ raisedNumber (getD w at.queueLast 0) i
     unfolding linksRaised numberRaised w₁
     raised-last =
-        read-same w₁ 24 (raisedNumber (getD w₁ 24 0) i) (omega (arith, length-links (queueChain w) i (n + 1) w 0))
+        read-same w₁ 24 (raisedNumber (getD w₁ at.queueLast 0) i) (omega (arith, length-links (queueChain w) i (n + 1) w 0))
         ∙ ap (λ (v : ℕ). raisedNumber v i)
-        (links-outside (queueChain w) i (n + 1) (λ p. p ≡ 24) w 0 (λ t a b e. inside t (omega arith) .1 (sym (places t (omega arith)) ∙ e)) 24 refl)
+        (links-outside (queueChain w) i (n + 1) (λ p. p ≡ at.queueLast) w 0 (λ t a b e. inside t (omega arith) .1 (sym (places t (omega arith)) ∙ e)) 24 refl)
 
-    pub raised-link : (t : ℕ) → t < n → getD (linksRaised w n i) (base + 32 * t + 2) 0 ≡ raisedNumber (getD w (base + 32 * t + 2) 0) i
+    pub raised-link : (t : ℕ) → t < n → getD (linksRaised w n i) (base + 32 * t + at.nextQueued) 0 ≡ raisedNumber (getD w (base + 32 * t + at.nextQueued) 0) i
     raised-link t h =
         let e = link-of w base at high t (omega arith) in
         ap (λ (p : ℕ). getD (linksRaised w n i) p 0) (sym e) ∙ raised-at (suc t) (omega arith) ∙ ap (λ (p : ℕ). raisedNumber (getD w p 0) i) e

@@ -9,6 +9,7 @@ use native.Mathlib.Decide.{decLt}
 use borrow.Author.Tests.{eq-eqb, ne-eqb, le-leb, lt-leb, le-ltb}
 use lib.Dec.{eqb, leb}
 use lib.ListN.{getD, length}
+use Rattle.words.specs.Layout as at
 use Rattle.words.specs.Layout.{entryAt, objectsAt}
 use Rattle.tables.specs.Table.{keyAt, position}
 use Rattle.tables.proofs.TableLaws.{entry-is}
@@ -24,18 +25,18 @@ use Rattle.agreement_tables.proofs.Search.{key-is, position-is, found-i
 -- ---- where the tables start
 
 -- behind the records of `t` threads
-pub objects-base : (w : List ℕ) (t : ℕ) → getD w 0 0 ≡ t → t ≤ 256 → objectsBase w ≡ 256 + 160 * t
+pub objects-base : (w : List ℕ) (t : ℕ) → getD w at.threadLimit 0 ≡ t → t ≤ at.mostThreads → objectsBase w ≡ at.headerSize + at.threadSize * t
 unfolding objectsBase objectsAt
-objects-base w t e h = ap (λ (n : ℕ). cond (leb n 256) (256 + 160 * n) 256) e ∙ ap (λ (b : Bool). cond b (256 + 160 * t) 256) (le-leb t 256 h)
+objects-base w t e h = ap (λ (n : ℕ). cond (leb n at.mostThreads) (at.headerSize + at.threadSize * n) at.headerSize) e ∙ ap (λ (b : Bool). cond b (at.headerSize + at.threadSize * t) at.headerSize) (le-leb t at.mostThreads h)
 
 -- behind room for `o` objects
-pub dpcs-base : (w : List ℕ) (base o : ℕ) → objectsBase w ≡ base → base ≤ 1000000 → getD w 1 0 ≡ o → o ≤ 4096 → dpcsBase w ≡ base + 32 * o
+pub dpcs-base : (w : List ℕ) (base o : ℕ) → objectsBase w ≡ base → base ≤ 1000000 → getD w at.objectLimit 0 ≡ o → o ≤ 4096 → dpcsBase w ≡ base + 32 * o
 unfolding dpcsBase
 dpcs-base w base o at low e h = ap₂ (λ (p n : ℕ). entryAt p n) at e ∙ entry-is base o low (omega arith)
 
 -- ---- objects
 
-module _ {A : Type 0} (key : A → ℕ) (w : List ℕ) (base : ℕ) (xs : List A) (low : base ≤ 1000000) (high : 256 ≤ base) (at : objectsBase w ≡ base) (count : getD w 4 0 ≡ length xs)
+module _ {A : Type 0} (key : A → ℕ) (w : List ℕ) (base : ℕ) (xs : List A) (low : base ≤ 1000000) (high : at.headerSize ≤ base) (at : objectsBase w ≡ base) (count : getD w at.objects 0 ≡ length xs)
     (few : length xs ≤ 4096) (rising : Rising key xs) (keys : Holds (Keyed key) w base xs) where
   found-there : (k : ℕ) → objectFound w k ≡ foundAt w base (length xs) k
   unfolding objectFound
@@ -51,18 +52,18 @@ module _ {A : Type 0} (key : A → ℕ) (w : List ℕ) (base : ℕ) (xs : List A
   object-known k = ap (λ (p : ℕ). eqb p 0) (found-there k) ∙ known-is key w base xs low (omega arith) rising keys (length xs) k refl (omega arith)
 
   -- the key is new and the table at its limit
-  pub full-is : (k : ℕ) → full w k ≡ cond (present (find key xs k)) false (leb (getD w 1 0) (length xs))
+  pub full-is : (k : ℕ) → full w k ≡ cond (present (find key xs k)) false (leb (getD w at.objectLimit 0) (length xs))
   unfolding full
-  full-is k = ap₂ (λ (b : Bool) (n : ℕ). cond b (leb (getD w 1 0) n) false) (object-known k) count ∙ go (present (find key xs k))
+  full-is k = ap₂ (λ (b : Bool) (n : ℕ). cond b (leb (getD w at.objectLimit 0) n) false) (object-known k) count ∙ go (present (find key xs k))
     where
-      go : (b : Bool) → cond (not b) (leb (getD w 1 0) (length xs)) false ≡ cond b false (leb (getD w 1 0) (length xs))
+      go : (b : Bool) → cond (not b) (leb (getD w at.objectLimit 0) (length xs)) false ≡ cond b false (leb (getD w at.objectLimit 0) (length xs))
       go true = refl
       go false = refl
 
   -- word 1 of a record is its kind
-  module _ (kindOf : A → ℕ) (kinds : (i : ℕ) (x : A) → nth xs i ≡ some x → getD w (base + 32 * i + 1) 0 ≡ kindOf x) where
+  module _ (kindOf : A → ℕ) (kinds : (i : ℕ) (x : A) → nth xs i ≡ some x → getD w (base + 32 * i + at.kind) 0 ≡ kindOf x) where
     kind-at : (k : ℕ) (x : A) → find key xs k ≡ some x → getD w (objectFound w k + 1) 0 ≡ kindOf x
-    kind-at k x e = ap (λ (p : ℕ). getD w (p + 1) 0) (object-found k x e) ∙ kinds (below key k xs) x (find-at key xs rising k x e)
+    kind-at k x e = ap (λ (p : ℕ). getD w (p + at.kind) 0) (object-found k x e) ∙ kinds (below key k xs) x (find-at key xs rising k x e)
 
     -- an object of the kind, or 0
     pub place-is : (kind k : ℕ) → placeOf w kind k ≡ given (find key xs k) 0 (λ x. cond (eqb (kindOf x) kind) (base + 32 * below key k xs) 0)
@@ -106,10 +107,10 @@ module _ {A : Type 0} (key : A → ℕ) (w : List ℕ) (base : ℕ) (xs : List A
 pub place-of-number : (w : List ℕ) (base : ℕ) → base ≤ 1000000 → dpcsBase w ≡ base → (i : ℕ) → i < 4096 → placeAt w (i + 1) ≡ base + 32 * i
 unfolding placeAt
 place-of-number w base low at i h =
-    ap₂ (λ (a c : Bool). cond a 96 (cond c 96 (entryAt (dpcsBase w) (i + 1 - 1)))) (ne-eqb (i + 1) 0 (λ e. omega arith)) (le-ltb 4096 (i + 1) (omega arith))
+    ap₂ (λ (a c : Bool). cond a at.unused (cond c at.unused (entryAt (dpcsBase w) (i + 1 - 1)))) (ne-eqb (i + 1) 0 (λ e. omega arith)) (le-ltb 4096 (i + 1) (omega arith))
     ∙ ap₂ (λ (p j : ℕ). entryAt p j) at (let z : i + 1 - 1 ≡ i = omega arith in z) ∙ entry-is base i low (omega arith)
 
-module _ {A : Type 0} (address : A → ℕ) (w : List ℕ) (base : ℕ) (xs : List A) (low : base ≤ 1000000) (high : 256 ≤ base) (at : dpcsBase w ≡ base) (count : getD w 5 0 ≡ length xs)
+module _ {A : Type 0} (address : A → ℕ) (w : List ℕ) (base : ℕ) (xs : List A) (low : base ≤ 1000000) (high : at.headerSize ≤ base) (at : dpcsBase w ≡ base) (count : getD w at.dpcs 0 ≡ length xs)
     (few : length xs ≤ 4096) (rising : Rising address xs) (keys : Holds (Keyed address) w base xs) where
   dpc-there : (a : ℕ) → dpcFound w a ≡ foundAt w base (length xs) a
   unfolding dpcFound

@@ -8,6 +8,7 @@ use native.Mathlib.Omega.{arith}
 use borrow.Author.Tests.{eq-eqb, ne-eqb, lt-leb}
 use lib.Dec.{eqb, leb}
 use lib.ListN.{getD, set, length, length-set}
+use Rattle.words.specs.Layout as at
 use Rattle.words.specs.Layout.{entryAt}
 use Rattle.tables.specs.Table.{position, gapOpened}
 use Rattle.tables.proofs.TableLaws.{entry-is}
@@ -31,54 +32,54 @@ pub object-outside : (R : ℕ → Type 0) (w : List ℕ) (place key : ℕ) (o : 
 unfolding putObject
 object-outside R w place key o far j r =
     let w₁ = set w place key in
-    let w₂ = set w₁ (place + 1) (o .kind) in
-    let w₃ = set w₂ (place + 2) (o .manual) in
-    let w₄ = set w₃ (place + 3) (o .signaled) in
-    set-outside R w₄ (place + 4) (o .owner) (far 4 (omega arith)) j r
-    ∙ set-outside R w₃ (place + 3) (o .signaled) (far 3 (omega arith)) j r
-    ∙ set-outside R w₂ (place + 2) (o .manual) (far 2 (omega arith)) j r
-    ∙ set-outside R w₁ (place + 1) (o .kind) (far 1 (omega arith)) j r
+    let w₂ = set w₁ (place + at.kind) (o .kind) in
+    let w₃ = set w₂ (place + at.manual) (o .manual) in
+    let w₄ = set w₃ (place + at.signaled) (o .signaled) in
+    set-outside R w₄ (place + at.owner) (o .owner) (far 4 (omega arith)) j r
+    ∙ set-outside R w₃ (place + at.signaled) (o .signaled) (far 3 (omega arith)) j r
+    ∙ set-outside R w₂ (place + at.manual) (o .manual) (far 2 (omega arith)) j r
+    ∙ set-outside R w₁ (place + at.kind) (o .kind) (far 1 (omega arith)) j r
     ∙ set-outside R w place key (λ q. far 0 (omega arith) (subst R (let z : place ≡ place + 0 = omega arith in z) q)) j r
 
 pub object-shows : (w : List ℕ) (place key : ℕ) (o : Object) → place + 5 ≤ length w → ObjectAt (putObject w place key o) place key o
 unfolding putObject
 object-shows w place key o long = record {
   key-word =
-      read-other w₄ (place + 4) place (o .owner) (λ e. omega arith) ∙ read-other w₃ (place + 3) place (o .signaled) (λ e. omega arith)
-      ∙ read-other w₂ (place + 2) place (o .manual) (λ e. omega arith) ∙ read-other w₁ (place + 1) place (o .kind) (λ e. omega arith) ∙ read-same w place key (omega arith);
+      read-other w₄ (place + at.owner) place (o .owner) (λ e. omega arith) ∙ read-other w₃ (place + at.signaled) place (o .signaled) (λ e. omega arith)
+      ∙ read-other w₂ (place + at.manual) place (o .manual) (λ e. omega arith) ∙ read-other w₁ (place + at.kind) place (o .kind) (λ e. omega arith) ∙ read-same w place key (omega arith);
   kind-word =
-      read-other w₄ (place + 4) (place + 1) (o .owner) (λ e. omega arith) ∙ read-other w₃ (place + 3) (place + 1) (o .signaled) (λ e. omega arith)
-      ∙ read-other w₂ (place + 2) (place + 1) (o .manual) (λ e. omega arith) ∙ read-same w₁ (place + 1) (o .kind) (omega (arith, l₁));
+      read-other w₄ (place + at.owner) (place + at.kind) (o .owner) (λ e. omega arith) ∙ read-other w₃ (place + at.signaled) (place + at.kind) (o .signaled) (λ e. omega arith)
+      ∙ read-other w₂ (place + at.manual) (place + at.kind) (o .manual) (λ e. omega arith) ∙ read-same w₁ (place + at.kind) (o .kind) (omega (arith, l₁));
   manual-word =
-      read-other w₄ (place + 4) (place + 2) (o .owner) (λ e. omega arith) ∙ read-other w₃ (place + 3) (place + 2) (o .signaled) (λ e. omega arith)
-      ∙ read-same w₂ (place + 2) (o .manual) (omega (arith, l₁, l₂));
-  signaled-word = read-other w₄ (place + 4) (place + 3) (o .owner) (λ e. omega arith) ∙ read-same w₃ (place + 3) (o .signaled) (omega (arith, l₁, l₂, l₃));
-  owner-word = read-same w₄ (place + 4) (o .owner) (omega (arith, l₁, l₂, l₃, l₄));
+      read-other w₄ (place + at.owner) (place + at.manual) (o .owner) (λ e. omega arith) ∙ read-other w₃ (place + at.signaled) (place + at.manual) (o .signaled) (λ e. omega arith)
+      ∙ read-same w₂ (place + at.manual) (o .manual) (omega (arith, l₁, l₂));
+  signaled-word = read-other w₄ (place + at.owner) (place + at.signaled) (o .owner) (λ e. omega arith) ∙ read-same w₃ (place + at.signaled) (o .signaled) (omega (arith, l₁, l₂, l₃));
+  owner-word = read-same w₄ (place + at.owner) (o .owner) (omega (arith, l₁, l₂, l₃, l₄));
 }
   where
     w₁ : List ℕ
     w₁ = set w place key
 
     w₂ : List ℕ
-    w₂ = set w₁ (place + 1) (o .kind)
+    w₂ = set w₁ (place + at.kind) (o .kind)
 
     w₃ : List ℕ
-    w₃ = set w₂ (place + 2) (o .manual)
+    w₃ = set w₂ (place + at.manual) (o .manual)
 
     w₄ : List ℕ
-    w₄ = set w₃ (place + 3) (o .signaled)
+    w₄ = set w₃ (place + at.signaled) (o .signaled)
 
     l₁ : length w₁ ≡ length w
     l₁ = length-set w place key
 
     l₂ : length w₂ ≡ length w₁
-    l₂ = length-set w₁ (place + 1) (o .kind)
+    l₂ = length-set w₁ (place + at.kind) (o .kind)
 
     l₃ : length w₃ ≡ length w₂
-    l₃ = length-set w₂ (place + 2) (o .manual)
+    l₃ = length-set w₂ (place + at.manual) (o .manual)
 
     l₄ : length w₄ ≡ length w₃
-    l₄ = length-set w₃ (place + 3) (o .signaled)
+    l₄ = length-set w₃ (place + at.signaled) (o .signaled)
 
 -- an object's words depend on its record
 pub object-local : (key : ℕ) → Local Whole (λ w place o. ObjectAt w place key o)
@@ -95,7 +96,7 @@ object-local key w w′ a b o c h = record {
 
 -- ---- an object made
 
-module _ {A : Type 0} (key : A → ℕ) (w : List ℕ) (base : ℕ) (xs : List A) (low : base ≤ 1000000) (high : 256 ≤ base) (at : objectsBase w ≡ base) (count : getD w 4 0 ≡ length xs)
+module _ {A : Type 0} (key : A → ℕ) (w : List ℕ) (base : ℕ) (xs : List A) (low : base ≤ 1000000) (high : at.headerSize ≤ base) (at : objectsBase w ≡ base) (count : getD w at.objects 0 ≡ length xs)
     (rising : Rising key xs) (keys : Holds (Keyed key) w base xs) (x : A) (o : Object) where
   module _ (few : length xs < 4096) where
     inserted-is : inserted w (key x) o ≡ set (putObject (gapOpened w base (length xs) (below key (key x) xs)) (base + 32 * below key (key x) xs) (key x) o) 4 (length xs + 1)
@@ -127,11 +128,11 @@ module _ {A : Type 0} (key : A → ℕ) (w : List ℕ) (base : ℕ) (xs : List A
         ap length inserted-is ∙ length-set (putObject w₁ (base + 32 * b) (key x) o) 4 (length xs + 1) ∙ length-object w₁ (base + 32 * b) (key x) o ∙ length-opened w base (length xs) b
 
     module _ (long : base + 32 * length xs + 32 ≤ length w) where
-      pub inserted-count : getD (inserted w (key x) o) 4 0 ≡ length xs + 1
+      pub inserted-count : getD (inserted w (key x) o) at.objects 0 ≡ length xs + 1
       inserted-count =
           let b = below key (key x) xs in
           let w₁ = gapOpened w base (length xs) (below key (key x) xs) in
-          ap (λ (v : List ℕ). getD v 4 0) inserted-is
+          ap (λ (v : List ℕ). getD v at.objects 0) inserted-is
           ∙ read-same (putObject w₁ (base + 32 * b) (key x) o) 4 (length xs + 1) (omega (arith, length-object w₁ (base + 32 * b) (key x) o, length-opened w base (length xs) b))
 
       pub inserted-shows : ObjectAt (inserted w (key x) o) (base + 32 * below key (key x) xs) (key x) o
@@ -169,15 +170,15 @@ module _ {A : Type 0} (key : A → ℕ) (w : List ℕ) (base : ℕ) (xs : List A
   pub entered-new : length xs < 4096 → find key xs (key x) ≡ none → entered w (key x) o ≡ inserted w (key x) o
   unfolding entered objectFound
   entered-new few h =
-      ap (λ (c : Bool). cond c (inserted w (key x) o) (putObject w (foundAt w (objectsBase w) (getD w 4 0) (key x)) (key x) o))
-      (eq-eqb (foundAt w (objectsBase w) (getD w 4 0) (key x)) 0
+      ap (λ (c : Bool). cond c (inserted w (key x) o) (putObject w (foundAt w (objectsBase w) (getD w at.objects 0) (key x)) (key x) o))
+      (eq-eqb (foundAt w (objectsBase w) (getD w at.objects 0) (key x)) 0
       (ap₂ (λ (p n : ℕ). foundAt w p n (key x)) at count ∙ missing-is key w base xs low (omega arith) rising keys (length xs) (key x) refl h))
 
   -- its key is known
   pub entered-known : length xs ≤ 4096 → (z : A) → find key xs (key x) ≡ some z → entered w (key x) o ≡ putObject w (base + 32 * below key (key x) xs) (key x) o
   unfolding entered objectFound
   entered-known few z h =
-      let e : foundAt w (objectsBase w) (getD w 4 0) (key x) ≡ base + 32 * below key (key x) xs =
+      let e : foundAt w (objectsBase w) (getD w at.objects 0) (key x) ≡ base + 32 * below key (key x) xs =
       ap₂ (λ (p n : ℕ). foundAt w p n (key x)) at count ∙ found-is key w base xs low (omega arith) rising keys (length xs) (key x) refl z h in
       ap (λ (p : ℕ). cond (eqb p 0) (inserted w (key x) o) (putObject w p (key x) o)) e
       ∙ ap (λ (c : Bool). cond c (inserted w (key x) o) (putObject w (base + 32 * below key (key x) xs) (key x) o)) (ne-eqb (base + 32 * below key (key x) xs) 0 (λ q. omega arith))
@@ -208,8 +209,8 @@ module _ {A : Type 0} (key : A → ℕ) (w : List ℕ) (base : ℕ) (xs : List A
         (λ z e. object-outside R w (base + 32 * below key (key x) xs) (key x) o
         (λ k h. far (base + 32 * below key (key x) xs + k) (omega arith) (omega (arith, length-put-known key x xs rising z e, find-in key xs rising (key x) z e))))
 
-    pub entered-count : getD (entered w (key x) o) 4 0 ≡ length (put key x xs)
-    entered-count = cases (λ v. getD v 4 0 ≡ length (put key x xs))
+    pub entered-count : getD (entered w (key x) o) at.objects 0 ≡ length (put key x xs)
+    entered-count = cases (λ v. getD v at.objects 0 ≡ length (put key x xs))
         (λ e. inserted-count (omega (arith, size-new e)) (omega (arith, size-new e)) ∙ sym (size-new e))
         (λ z e. object-outside (λ p. p ≡ 4) w (base + 32 * below key (key x) xs) (key x) o (λ k h q. omega arith) 4 refl ∙ count ∙ sym (length-put-known key x xs rising z e))
 

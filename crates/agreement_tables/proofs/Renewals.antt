@@ -9,6 +9,7 @@ use native.Mathlib.Omega.{arith}
 use borrow.Author.Tests.{eq-eqb, ne-eqb}
 use lib.Dec.{eqb}
 use lib.ListN.{getD, set, length, length-set}
+use Rattle.words.specs.Layout as at
 use Rattle.words.specs.Layout.{entryAt, objectsAt}
 use Rattle.tables.proofs.TableLaws.{entry-is}
 use Rattle.objects.specs.Objects.{objectsBase, dpcsBase}
@@ -30,37 +31,37 @@ use Rattle.agreement_tables.proofs.Compacts.{Marked, marked-local}
 pub length-numbered : (m : ℕ) (w : List ℕ) (base i last : ℕ) → length (numberedIn m w base i last) ≡ length w
 unfolding numberedIn numberPut
 length-numbered zero w base i last = refl
-length-numbered (suc m) w base i last = length-numbered m (numberPut w (entryAt base i) last) base (i + 1) (numberTo w (entryAt base i) last) ∙ go (eqb (getD w (entryAt base i + 1) 0) 9)
+length-numbered (suc m) w base i last = length-numbered m (numberPut w (entryAt base i) last) base (i + 1) (numberTo w (entryAt base i) last) ∙ go (eqb (getD w (entryAt base i + at.phase) 0) 9)
   where
-    go : (b : Bool) → length (cond b w (set w (entryAt base i + 21) (last + 1))) ≡ length w
+    go : (b : Bool) → length (cond b w (set w (entryAt base i + at.newNumber) (last + 1))) ≡ length w
     go true = refl
-    go false = length-set w (entryAt base i + 21) (last + 1)
+    go false = length-set w (entryAt base i + at.newNumber) (last + 1)
 
-pub numbered-outside : (m : ℕ) (R : ℕ → Type 0) (w : List ℕ) (base i last : ℕ) → base ≤ 1000000 → i + m ≤ 8192 → ((t : ℕ) → i ≤ t → t < i + m → R (base + 32 * t + 21) → ⊥)
+pub numbered-outside : (m : ℕ) (R : ℕ → Type 0) (w : List ℕ) (base i last : ℕ) → base ≤ 1000000 → i + m ≤ 8192 → ((t : ℕ) → i ≤ t → t < i + m → R (base + 32 * t + at.newNumber) → ⊥)
     → Same R w (numberedIn m w base i last)
 unfolding numberedIn numberPut
 numbered-outside zero R w base i last low few far j r = refl
 numbered-outside (suc m) R w base i last low few far j r =
     numbered-outside m R (numberPut w (entryAt base i) last) base (i + 1) (numberTo w (entryAt base i) last) low (omega arith) (λ t a b. far t (omega arith) (omega arith)) j r
-    ∙ go (eqb (getD w (entryAt base i + 1) 0) 9)
+    ∙ go (eqb (getD w (entryAt base i + at.phase) 0) 9)
   where
-    go : (b : Bool) → getD (cond b w (set w (entryAt base i + 21) (last + 1))) j 0 ≡ getD w j 0
+    go : (b : Bool) → getD (cond b w (set w (entryAt base i + at.newNumber) (last + 1))) j 0 ≡ getD w j 0
     go true = refl
-    go false = set-outside R w (entryAt base i + 21) (last + 1) (λ q. far i (omega arith) (omega arith) (subst R (ap (λ (p : ℕ). p + 21) (entry-is base i low (omega arith))) q)) j r
+    go false = set-outside R w (entryAt base i + at.newNumber) (last + 1) (λ q. far i (omega arith) (omega arith) (subst R (ap (λ (p : ℕ). p + at.newNumber) (entry-is base i low (omega arith))) q)) j r
 
 pub numbered-shows : {A : Type 0} (f : A → Bool) (ys : List A) (w : List ℕ) (base i last : ℕ) → base ≤ 1000000 → i + length ys ≤ 8192 → base + 32 * (i + length ys) ≤ length w
     → Holds (Marked f 1 9) w (base + 32 * i) ys → (t : ℕ) (x : A) → nth ys t ≡ some x → f x ≡ true
-    → getD (numberedIn (length ys) w base i last) (base + 32 * (i + t) + 21) 0 ≡ suc (last + keptBefore f ys t)
+    → getD (numberedIn (length ys) w base i last) (base + 32 * (i + t) + at.newNumber) 0 ≡ suc (last + keptBefore f ys t)
 unfolding numberedIn numberPut numberTo
 numbered-shows f [] w base i last low few long marks t x e h = absurd (none-some x e)
 numbered-shows {A} f (y ∷ ys) w base i last low few long marks t x e h =
-    ap (λ (b : Bool). getD (numberedIn (length ys) (cond b w (set w (entryAt base i + 21) (last + 1))) base (i + 1) (cond b last (last + 1))) (base + 32 * (i + t) + 21) 0)
-    (ap (λ (p : ℕ). eqb (getD w (p + 1) 0) 9) (entry-is base i low (omega arith)) ∙ holds-head Whole (Marked f 1 9) (marked-local f 1 9 (omega arith)) w (base + 32 * i) y ys marks)
-    ∙ ap (λ (p : ℕ). getD (numberedIn (length ys) (cond (not (f y)) w (set w (p + 21) (last + 1))) base (i + 1) (cond (not (f y)) last (last + 1))) (base + 32 * (i + t) + 21) 0) (entry-is base i low (omega arith))
+    ap (λ (b : Bool). getD (numberedIn (length ys) (cond b w (set w (entryAt base i + at.newNumber) (last + 1))) base (i + 1) (cond b last (last + 1))) (base + 32 * (i + t) + at.newNumber) 0)
+    (ap (λ (p : ℕ). eqb (getD w (p + at.phase) 0) 9) (entry-is base i low (omega arith)) ∙ holds-head Whole (Marked f 1 9) (marked-local f 1 9 (omega arith)) w (base + 32 * i) y ys marks)
+    ∙ ap (λ (p : ℕ). getD (numberedIn (length ys) (cond (not (f y)) w (set w (p + at.newNumber) (last + 1))) base (i + 1) (cond (not (f y)) last (last + 1))) (base + 32 * (i + t) + at.newNumber) 0) (entry-is base i low (omega arith))
     ∙ go t e (f y) refl (λ w₁ last₁ l m t₁ e₁. numbered-shows f ys w₁ base (i + 1) last₁ low (omega arith) l m t₁ x e₁ h)
   where
     w₁ : List ℕ
-    w₁ = set w (base + 32 * i + 21) (last + 1)
+    w₁ = set w (base + 32 * i + at.newNumber) (last + 1)
 
     rest : Holds (Marked f 1 9) w (base + 32 * (i + 1)) ys
     rest = subst (λ (p : ℕ). Holds (Marked f 1 9) w p ys) (let z : base + 32 * i + 32 ≡ base + 32 * (i + 1) = omega arith in z)
@@ -68,19 +69,19 @@ numbered-shows {A} f (y ∷ ys) w base i last low few long marks t x e h =
 
     rest₁ : Holds (Marked f 1 9) w₁ (base + 32 * (i + 1)) ys
     rest₁ = holds-depends Whole (Marked f 1 9) (marked-local f 1 9 (omega arith)) w w₁ (base + 32 * (i + 1)) ys
-        (λ j l k m d. read-other w (base + 32 * i + 21) (base + 32 * (i + 1) + 32 * j + k) (last + 1) (λ q. omega arith)) rest
+        (λ j l k m d. read-other w (base + 32 * i + at.newNumber) (base + 32 * (i + 1) + 32 * j + k) (last + 1) (λ q. omega arith)) rest
 
     len₁ : length w₁ ≡ length w
-    len₁ = length-set w (base + 32 * i + 21) (last + 1)
+    len₁ = length-set w (base + 32 * i + at.newNumber) (last + 1)
 
     go : (t : ℕ) → nth (y ∷ ys) t ≡ some x → (b : Bool) → f y ≡ b
         → ((v : List ℕ) (l : ℕ) → base + 32 * (i + 1 + length ys) ≤ length v → Holds (Marked f 1 9) v (base + 32 * (i + 1)) ys → (t₁ : ℕ) → nth ys t₁ ≡ some x
-        → getD (numberedIn (length ys) v base (i + 1) l) (base + 32 * (i + 1 + t₁) + 21) 0 ≡ suc (l + keptBefore f ys t₁))
-        → getD (numberedIn (length ys) (cond (not b) w (set w (base + 32 * i + 21) (last + 1))) base (i + 1) (cond (not b) last (last + 1))) (base + 32 * (i + t) + 21) 0 ≡ suc (last + keptBefore f (y ∷ ys) t)
+        → getD (numberedIn (length ys) v base (i + 1) l) (base + 32 * (i + 1 + t₁) + at.newNumber) 0 ≡ suc (l + keptBefore f ys t₁))
+        → getD (numberedIn (length ys) (cond (not b) w (set w (base + 32 * i + at.newNumber) (last + 1))) base (i + 1) (cond (not b) last (last + 1))) (base + 32 * (i + t) + at.newNumber) 0 ≡ suc (last + keptBefore f (y ∷ ys) t)
     go zero e true q ih =
         ap (λ (p : ℕ). getD (numberedIn (length ys) w₁ base (i + 1) (last + 1)) p 0) (let z : base + 32 * (i + 0) + 21 ≡ base + 32 * i + 21 = omega arith in z)
-        ∙ numbered-outside (length ys) (λ p. p ≡ base + 32 * i + 21) w₁ base (i + 1) (last + 1) low (omega arith) (λ u a b r. omega arith) (base + 32 * i + 21) refl
-        ∙ read-same w (base + 32 * i + 21) (last + 1) (omega arith) ∙ (let z : last + 1 ≡ suc (last + 0) = omega arith in z)
+        ∙ numbered-outside (length ys) (λ p. p ≡ base + 32 * i + at.newNumber) w₁ base (i + 1) (last + 1) low (omega arith) (λ u a b r. omega arith) (base + 32 * i + at.newNumber) refl
+        ∙ read-same w (base + 32 * i + at.newNumber) (last + 1) (omega arith) ∙ (let z : last + 1 ≡ suc (last + 0) = omega arith in z)
     go zero e false q ih = absurd (not-both (sym h ∙ ap f (sym (some-same y x e)) ∙ q))
     go (suc t) e true q ih =
         ap (λ (p : ℕ). getD (numberedIn (length ys) w₁ base (i + 1) (last + 1)) p 0) (let z : base + 32 * (i + suc t) + 21 ≡ base + 32 * (i + 1 + t) + 21 = omega arith in z)
@@ -96,31 +97,31 @@ numbered-shows {A} f (y ∷ ys) w base i last low few long marks t x e h =
 -- ---- the queue's links: the new numbers of what they were
 
 -- where the table starts is said by words 0 and 1
-pub base-depends : (w w′ : List ℕ) → getD w′ 0 0 ≡ getD w 0 0 → getD w′ 1 0 ≡ getD w 1 0 → dpcsBase w′ ≡ dpcsBase w
+pub base-depends : (w w′ : List ℕ) → getD w′ at.threadLimit 0 ≡ getD w at.threadLimit 0 → getD w′ at.objectLimit 0 ≡ getD w at.objectLimit 0 → dpcsBase w′ ≡ dpcsBase w
 unfolding dpcsBase objectsBase
 base-depends w w′ a b = ap₂ (λ (t o : ℕ). entryAt (objectsAt t) o) a b
 
 -- the new number of DPC `i + 1` is word 21 of record `i`
-new-at : (w : List ℕ) (base : ℕ) → base ≤ 1000000 → dpcsBase w ≡ base → (i : ℕ) → i < 4096 → newNumber w (suc i) ≡ getD w (base + 32 * i + 21) 0
+new-at : (w : List ℕ) (base : ℕ) → base ≤ 1000000 → dpcsBase w ≡ base → (i : ℕ) → i < 4096 → newNumber w (suc i) ≡ getD w (base + 32 * i + at.newNumber) 0
 unfolding newNumber
 new-at w base low at i h =
-    ap (λ (b : Bool). cond b 0 (getD w (placeAt w (suc i) + 21) 0)) (ne-eqb (suc i) 0 (λ e. omega arith))
-    ∙ ap (λ (n : ℕ). getD w (placeAt w n + 21) 0) (let z : suc i ≡ i + 1 = omega arith in z)
-    ∙ ap (λ (p : ℕ). getD w (p + 21) 0) (place-of-number w base low at i h)
+    ap (λ (b : Bool). cond b 0 (getD w (placeAt w (suc i) + at.newNumber) 0)) (ne-eqb (suc i) 0 (λ e. omega arith))
+    ∙ ap (λ (n : ℕ). getD w (placeAt w n + at.newNumber) 0) (let z : suc i ≡ i + 1 = omega arith in z)
+    ∙ ap (λ (p : ℕ). getD w (p + at.newNumber) 0) (place-of-number w base low at i h)
 
 -- `N` gives the new numbers of the DPCs of which `G` holds
-module _ (base n : ℕ) (low : base ≤ 1000000) (high : 256 ≤ base) (few : n ≤ 4096) (N : ℕ → ℕ) (none-stays : N 0 ≡ 0) (G : ℕ → Type 0) where
+module _ (base n : ℕ) (low : base ≤ 1000000) (high : at.headerSize ≤ base) (few : n ≤ 4096) (N : ℕ → ℕ) (none-stays : N 0 ≡ 0) (G : ℕ → Type 0) where
   pub record Renewable (w : List ℕ) : Type 0 where
     pub at : dpcsBase w ≡ base
     pub long : base + 32 * n ≤ length w
-    pub news : (t : ℕ) → t < n → G (suc t) → getD w (base + 32 * t + 21) 0 ≡ N (suc t)
+    pub news : (t : ℕ) → t < n → G (suc t) → getD w (base + 32 * t + at.newNumber) 0 ≡ N (suc t)
 
   abbrev pub Good : ℕ → Type 0
   Good y = (1 ≤ y) × (y ≤ n) × G y
 
   pub new-is : (w : List ℕ) → Renewable w → (y : ℕ) → (y ≡ 0) ⊎ Good y → newNumber w y ≡ N y
   unfolding newNumber
-  new-is w r y (inl e) = ap (λ (b : Bool). cond b 0 (getD w (placeAt w y + 21) 0)) (eq-eqb y 0 e) ∙ sym (ap N e ∙ none-stays)
+  new-is w r y (inl e) = ap (λ (b : Bool). cond b 0 (getD w (placeAt w y + at.newNumber) 0)) (eq-eqb y 0 e) ∙ sym (ap N e ∙ none-stays)
   new-is w r zero (inr g) = absurd (omega (arith, g .0))
   new-is w r (suc t) (inr g) = new-at w base low (r .at) t (omega (arith, g .1)) ∙ r .news t (omega (arith, g .1)) (g .2)
 
@@ -129,7 +130,7 @@ module _ (base n : ℕ) (low : base ≤ 1000000) (high : 256 ≤ base) (few : n 
   renewable-set w y v h r = record {
     at = base-depends w (set w (linkAt (queueOf base) y) v) (keeps 0 (omega arith)) (keeps 1 (omega arith)) ∙ r .at;
     long = omega (arith, r .long, length-set w (linkAt (queueOf base) y) v);
-    news = λ t l g. read-other w (linkAt (queueOf base) y) (base + 32 * t + 21) v
+    news = λ t l g. read-other w (linkAt (queueOf base) y) (base + 32 * t + at.newNumber) v
         (queue-place base high (λ p. base + 32 * t + 21 ≡ p → ⊥) y (omega arith) (λ e q. omega arith) (λ u e q. omega arith)) ∙ r .news t l g;
   }
     where

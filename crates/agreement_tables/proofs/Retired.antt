@@ -7,6 +7,7 @@ use native.Mathlib.Omega.{arith}
 use borrow.Author.Tests.{le-leb}
 use lib.Dec.{eqb, ltb, leb}
 use lib.ListN.{getD, set, length, length-set, length-append}
+use Rattle.words.specs.Layout as at
 use Rattle.words.specs.Layout.{entryAt}
 use Rattle.tables.specs.Compact as tables
 use Rattle.tables.proofs.TableLaws.{entry-is}
@@ -73,10 +74,10 @@ module _ {A : Type 0} (f : A → Bool) (lo hi : ℕ) where
   goes-local w w′ a b x c h =
       ap₂ (λ (k v : ℕ). cond (eqb k 1) (cond (ltb v lo) false (ltb v hi)) false) (c 1 (omega arith) tt) (c 0 (omega arith) tt) ∙ h
 
-module _ {A : Type 0} (D : ℕ → Type 0) (P : List ℕ → ℕ → A → Type 0) (local : Local D P) (f : A → Bool) (lo hi base : ℕ) (low : base ≤ 1000000) (high : 256 ≤ base) where
+module _ {A : Type 0} (D : ℕ → Type 0) (P : List ℕ → ℕ → A → Type 0) (local : Local D P) (f : A → Bool) (lo hi base : ℕ) (low : base ≤ 1000000) (high : at.headerSize ≤ base) where
   retire : (ys : List A) (w : List ℕ) (i : ℕ) (zs : List A) → length zs ≤ i → i + length ys ≤ 8192 → base + 32 * (i + length ys) ≤ length w
       → Holds P w base zs → Holds P w (base + 32 * i) ys → Holds (Goes f lo hi) w (base + 32 * i) ys
-      → Holds P (retiredIn (length ys) w base i (length zs) lo hi) base (zs ++ keep f ys) × (getD (retiredIn (length ys) w base i (length zs) lo hi) 4 0 ≡ length (zs ++ keep f ys))
+      → Holds P (retiredIn (length ys) w base i (length zs) lo hi) base (zs ++ keep f ys) × (getD (retiredIn (length ys) w base i (length zs) lo hi) at.objects 0 ≡ length (zs ++ keep f ys))
   unfolding retiredIn
   retire [] w i zs down few long done left goes =
       let e : zs ++ [] ≡ zs = append-nil zs in (
@@ -85,7 +86,7 @@ module _ {A : Type 0} (D : ℕ → Type 0) (P : List ℕ → ℕ → A → Type 
         read-same w 4 (length zs) (omega arith) ∙ ap length (sym e),
       )
   retire (y ∷ ys) w i zs down few long done left goes =
-      subst (λ (v : List ℕ). Holds P v base (zs ++ keep f (y ∷ ys)) × (getD v 4 0 ≡ length (zs ++ keep f (y ∷ ys))))
+      subst (λ (v : List ℕ). Holds P v base (zs ++ keep f (y ∷ ys)) × (getD v at.objects 0 ≡ length (zs ++ keep f (y ∷ ys))))
       (sym (retired-more (length ys) w base i (length zs) lo hi
       ∙ ap (λ (b : Bool). cond b (retiredIn (length ys) w base (i + 1) (length zs) lo hi) (retiredIn (length ys) (tables.moved w base i (length zs)) base (i + 1) (length zs + 1) lo hi))
       (ap (λ (p : ℕ). isRetired w p lo hi) (entry-is base i low (omega arith)) ∙ holds-head Whole (Goes f lo hi) (goes-local f lo hi) w (base + 32 * i) y ys goes)))
@@ -103,16 +104,16 @@ module _ {A : Type 0} (D : ℕ → Type 0) (P : List ℕ → ℕ → A → Type 
       go : (b : Bool)
           → ((w₁ : List ℕ) (zs : List A) → length zs ≤ i + 1 → i + 1 + length ys ≤ 8192 → base + 32 * (i + 1 + length ys) ≤ length w₁
           → Holds P w₁ base zs → Holds P w₁ (base + 32 * (i + 1)) ys → Holds (Goes f lo hi) w₁ (base + 32 * (i + 1)) ys
-          → Holds P (retiredIn (length ys) w₁ base (i + 1) (length zs) lo hi) base (zs ++ keep f ys) × (getD (retiredIn (length ys) w₁ base (i + 1) (length zs) lo hi) 4 0 ≡ length (zs ++ keep f ys)))
+          → Holds P (retiredIn (length ys) w₁ base (i + 1) (length zs) lo hi) base (zs ++ keep f ys) × (getD (retiredIn (length ys) w₁ base (i + 1) (length zs) lo hi) at.objects 0 ≡ length (zs ++ keep f ys)))
           → Holds P (cond (not b) (retiredIn (length ys) w base (i + 1) (length zs) lo hi) (retiredIn (length ys) (tables.moved w base i (length zs)) base (i + 1) (length zs + 1) lo hi)) base (zs ++ cond b (y ∷ keep f ys) (keep f ys))
           × (getD (cond (not b) (retiredIn (length ys) w base (i + 1) (length zs) lo hi) (retiredIn (length ys) (tables.moved w base i (length zs)) base (i + 1) (length zs + 1) lo hi)) 4 0
           ≡ length (zs ++ cond b (y ∷ keep f ys) (keep f ys)))
       go false ih = ih w zs (omega arith) (omega arith) (omega arith) done rest rest-goes
       go true ih =
-          subst (λ (l : List A). Holds P (retiredIn (length ys) w₁ base (i + 1) (length zs + 1) lo hi) base l × (getD (retiredIn (length ys) w₁ base (i + 1) (length zs + 1) lo hi) 4 0 ≡ length l))
+          subst (λ (l : List A). Holds P (retiredIn (length ys) w₁ base (i + 1) (length zs + 1) lo hi) base l × (getD (retiredIn (length ys) w₁ base (i + 1) (length zs + 1) lo hi) at.objects 0 ≡ length l))
           (append-assoc zs (y ∷ []) (keep f ys))
           (subst (λ (m : ℕ). Holds P (retiredIn (length ys) w₁ base (i + 1) m lo hi) base ((zs ++ (y ∷ [])) ++ keep f ys)
-          × (getD (retiredIn (length ys) w₁ base (i + 1) m lo hi) 4 0 ≡ length ((zs ++ (y ∷ [])) ++ keep f ys))) size
+          × (getD (retiredIn (length ys) w₁ base (i + 1) m lo hi) at.objects 0 ≡ length ((zs ++ (y ∷ [])) ++ keep f ys))) size
           (ih w₁ (zs ++ (y ∷ [])) (omega (arith, size)) (omega arith) (omega (arith, length-moved w base i (length zs)))
           (moved-last D P local w base i low (omega arith) zs y down (omega arith) done (holds-head D P local w (base + 32 * i) y ys left))
           (moved-rest D P local w base i low (omega arith) (length zs) ys down rest)
@@ -124,7 +125,7 @@ module _ {A : Type 0} (D : ℕ → Type 0) (P : List ℕ → ℕ → A → Type 
           size : length (zs ++ (y ∷ [])) ≡ length zs + 1
           size = length-append zs (y ∷ [])
 
-  module _ (w : List ℕ) (xs : List A) (at : objectsBase w ≡ base) (count : getD w 4 0 ≡ length xs) (few : length xs ≤ 4096) (long : base + 32 * length xs ≤ length w) where
+  module _ (w : List ℕ) (xs : List A) (at : objectsBase w ≡ base) (count : getD w at.objects 0 ≡ length xs) (few : length xs ≤ 4096) (long : base + 32 * length xs ≤ length w) where
     retired-is : retired w lo hi ≡ retiredIn (length xs) w base 0 0 lo hi
     unfolding retired objectCount
     retired-is =
@@ -140,7 +141,7 @@ module _ {A : Type 0} (D : ℕ → Type 0) (P : List ℕ → ℕ → A → Type 
         ap (λ (v : List ℕ). getD v p 0) retired-is ∙ retired-in-outside (length xs) R w base 0 0 lo hi low (omega arith) (omega arith) four (λ q a b. far q a (omega arith)) p r
 
     module _ (holds : Holds P w base xs) (goes : Holds (Goes f lo hi) w base xs) where
-      whole : Holds P (retiredIn (length xs) w base 0 0 lo hi) base (keep f xs) × (getD (retiredIn (length xs) w base 0 0 lo hi) 4 0 ≡ length (keep f xs))
+      whole : Holds P (retiredIn (length xs) w base 0 0 lo hi) base (keep f xs) × (getD (retiredIn (length xs) w base 0 0 lo hi) at.objects 0 ≡ length (keep f xs))
       whole = retire xs w 0 [] (omega arith) (omega arith) (omega arith) (λ i x e. absurd (none-some x e))
           (subst (λ (p : ℕ). Holds P w p xs) start holds) (subst (λ (p : ℕ). Holds (Goes f lo hi) w p xs) start goes)
         where
@@ -152,5 +153,5 @@ module _ {A : Type 0} (D : ℕ → Type 0) (P : List ℕ → ℕ → A → Type 
       retired-holds = subst (λ (v : List ℕ). Holds P v base (keep f xs)) (sym retired-is) (whole .0)
 
       -- and how many they are
-      pub retired-count : getD (retired w lo hi) 4 0 ≡ length (keep f xs)
-      retired-count = ap (λ (v : List ℕ). getD v 4 0) retired-is ∙ whole .1
+      pub retired-count : getD (retired w lo hi) at.objects 0 ≡ length (keep f xs)
+      retired-count = ap (λ (v : List ℕ). getD v at.objects 0) retired-is ∙ whole .1

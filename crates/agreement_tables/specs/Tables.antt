@@ -6,6 +6,7 @@ use mathlib.Core.Path.{_≡_}
 use mathlib.Core.Option.{none, some}
 use lib.Dec.{ltb}
 use lib.ListN.{getD}
+use Rattle.words.specs.Layout as at
 use Rattle.chains.specs.declared.Chain.{Chain}
 use Rattle.chains.specs.Chain.{linkAt}
 use Rattle.objects.specs.declared.Object.{Object}
@@ -46,7 +47,7 @@ module _ {A : Type 0} where
 -- ---- keys
 
 module _ {A : Type 0} (key : A → ℕ) where
-  -- word 0 of a record is its key
+  -- a record's first word is its key
   abbrev pub Keyed : List ℕ → ℕ → A → Type 0
   Keyed w place x = getD w place 0 ≡ key x
 
@@ -79,9 +80,8 @@ pub record Stays {A : Type 0} (f : A → Bool) (xs : List A) (y : ℕ) : Type 0 
 
 -- ---- the queue of DPCs
 
--- first 23, last 24, and word 2 of a record is its link
 abbrev pub queueOf : ℕ → Chain
-queueOf base = record { first = 23; last = 24; link = base - 30; stride = 32 }
+queueOf base = record { first = at.queueFirst; last = at.queueLast; link = base - at.queueLinkBefore; stride = at.recordSize }
 
 -- after `before` come the DPCs of the list, and then none
 abbrev pub Queued : List ℕ → Chain → ℕ → List ℕ → Type 0
@@ -104,21 +104,21 @@ Others D w base n b w′ = (j : ℕ) → j < n → (j ≡ b → ⊥) → Copied 
 -- the five words of an object
 pub record ObjectAt (w : List ℕ) (place key : ℕ) (o : Object) : Type 0 where
   pub key-word : getD w place 0 ≡ key
-  pub kind-word : getD w (place + 1) 0 ≡ o .kind
-  pub manual-word : getD w (place + 2) 0 ≡ o .manual
-  pub signaled-word : getD w (place + 3) 0 ≡ o .signaled
-  pub owner-word : getD w (place + 4) 0 ≡ o .owner
+  pub kind-word : getD w (place + at.kind) 0 ≡ o .kind
+  pub manual-word : getD w (place + at.manual) 0 ≡ o .manual
+  pub signaled-word : getD w (place + at.signaled) 0 ≡ o .signaled
+  pub owner-word : getD w (place + at.owner) 0 ≡ o .owner
 
 -- the eleven words of a new DPC: idle, in no queue, with no timer
 pub record DpcAt (w : List ℕ) (place address : ℕ) (d : NewDpc) : Type 0 where
   pub address-word : getD w place 0 ≡ address
-  pub phase-word : getD w (place + 1) 0 ≡ 0
-  pub link-word : getD w (place + 2) 0 ≡ 0
-  pub timer-word : getD w (place + 3) 0 ≡ 0
-  pub architecture-word : getD w (place + 4) 0 ≡ d .architecture
-  pub backing-word : getD w (place + 5) 0 ≡ d .backing
-  pub base-word : getD w (place + 6) 0 ≡ d .base
-  pub size-word : getD w (place + 7) 0 ≡ d .size
-  pub mapped-word : getD w (place + 8) 0 ≡ d .mapped
-  pub routine-word : getD w (place + 9) 0 ≡ d .routine
-  pub context-word : getD w (place + 10) 0 ≡ d .context
+  pub phase-word : getD w (place + at.phase) 0 ≡ 0
+  pub link-word : getD w (place + at.nextQueued) 0 ≡ 0
+  pub timer-word : getD w (place + at.namedBy) 0 ≡ 0
+  pub architecture-word : getD w (place + at.dpcArchitecture) 0 ≡ d .architecture
+  pub backing-word : getD w (place + at.dpcBacking) 0 ≡ d .backing
+  pub base-word : getD w (place + at.dpcBase) 0 ≡ d .base
+  pub size-word : getD w (place + at.dpcSize) 0 ≡ d .size
+  pub mapped-word : getD w (place + at.dpcMapped) 0 ≡ d .mapped
+  pub routine-word : getD w (place + at.routine) 0 ≡ d .routine
+  pub context-word : getD w (place + at.context) 0 ≡ d .context

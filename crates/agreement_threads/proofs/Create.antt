@@ -8,6 +8,7 @@ use native.Mathlib.Decide.{ℕ-discrete}
 use borrow.Author.Tests.{leb-false, ltb-false, ne-eqb}
 use lib.ListN.{getD, set, length}
 use lib.Dec.{eqb, leb, ltb}
+use Rattle.words.specs.Layout as at
 use Rattle.answers.specs.Outcome.{outcome, unless}
 use Rattle.answers.specs.declared.Answer.the-variants as answer
 use Rattle.opening.specs.Open.{badPriority}
@@ -75,15 +76,15 @@ module _ (w : List ℕ) (s : State) (a : Agree w s) (v : Valid s) (p : ℕ) wher
   abbrev t : Thread
   t = newThread p
 
-  count-is : getD w 3 0 ≡ length (s .dispatcher .threads)
-  count-is = a .numbers 3 n refl
+  count-is : getD w at.threads 0 ≡ length (s .dispatcher .threads)
+  count-is = a .numbers at.threads n refl
 
   pub create-refusal : words.createRefusal w p ≡ createRefusal s p
   unfolding words.createRefusal createRefusal badPriority notPriority
-  create-refusal = simp (count-is, a .numbers 0 (s .limits .threads) refl)
+  create-refusal = simp (count-is, a .numbers at.threadLimit (s .limits .threads) refl)
 
   -- the next number
-  number-is : (getD w 3 0 + 1) % 2 ^ 64 ≡ suc (length (s .dispatcher .threads))
+  number-is : (getD w at.threads 0 + 1) % 2 ^ 64 ≡ suc (length (s .dispatcher .threads))
   number-is = ap (λ (m : ℕ). (m + 1) % 2 ^ 64) count-is ∙ omega (arith, threads-few w s _ _ a)
 
   placed-new : 1 ≤ p → p ≤ 31 → length (s .dispatcher .threads) < s .limits .threads

@@ -8,6 +8,7 @@ use native.Mathlib.Omega.{arith}
 use borrow.Author.Tests.{eq-eqb, ne-eqb, ltb-false}
 use lib.ListN.{getD, length}
 use lib.Dec.{eqb, ltb}
+use Rattle.words.specs.Layout as at
 use Rattle.answers.specs.declared.Answer.the-variants as answer
 use Rattle.call_answers.specs.Told.{toldWith}
 use Rattle.words.specs.Word.{topBit}
@@ -101,8 +102,8 @@ module _ (w : List ℕ) (s : State) (a : Agree w s) (v : Valid s) (out : List �
   read : code.dispatched w out ≡ told-by (ltb (length out) (s .limits .threads)) (s .dispatcher .current) top
   unfolding code.dispatched told-by
   read =
-      ap (λ (n : ℕ). told-by (ltb (length out) n) (getD w 6 0) (topBit (getD w 9 0))) (a .numbers 0 (s .limits .threads) refl)
-      ∙ ap (λ (n : ℕ). told-by (ltb (length out) (s .limits .threads)) n (topBit (getD w 9 0))) (a .numbers 6 (s .dispatcher .current) refl)
+      ap (λ (n : ℕ). told-by (ltb (length out) n) (getD w at.current 0) (topBit (getD w at.ready 0))) (a .numbers at.threadLimit (s .limits .threads) refl)
+      ∙ ap (λ (n : ℕ). told-by (ltb (length out) (s .limits .threads)) n (topBit (getD w at.ready 0))) (a .numbers at.current (s .dispatcher .current) refl)
       ∙ ap (told-by (ltb (length out) (s .limits .threads)) (s .dispatcher .current)) (top-bit-is w s a)
 
   -- none is current

@@ -6,6 +6,7 @@ use mathlib.Core.Path.{_≡_, sym, ap, _∙_, subst}
 use native.Mathlib.Omega.{arith}
 use native.Mathlib.Decide.{ℕ-discrete}
 use lib.ListN.{getD, set, length, length-set}
+use Rattle.words.specs.Layout as at
 use Rattle.threads.specs.Thread.{putThread, putWait, noWait}
 use Rattle.model.specs.State.{State, Thread, ready}
 use Rattle.model.specs.Threads.{threadAt, withNew}
@@ -58,13 +59,13 @@ module _ (w : List ℕ) (s : State) (holder : ℕ → ℕ) (active : ℕ) (a : A
   abbrev w₃ : List ℕ
   w₃ = putThread w₂ id (storedOf t)
 
-  few : length (s .dispatcher .threads) ≤ 256
+  few : length (s .dispatcher .threads) ≤ at.mostThreads
   few = threads-few w s holder active a
 
-  few′ : suc (length (s .dispatcher .threads)) ≤ 256
+  few′ : suc (length (s .dispatcher .threads)) ≤ at.mostThreads
   few′ = omega (arith, a .shape .sizes .limits .threads, room)
 
-  long : 256 + 160 * suc (length (s .dispatcher .threads)) ≤ length w
+  long : at.headerSize + at.threadSize * suc (length (s .dispatcher .threads)) ≤ length w
   long = omega (arith, a .enough, room)
 
   len₁ : length w₁ ≡ length w
@@ -77,12 +78,12 @@ module _ (w : List ℕ) (s : State) (holder : ℕ → ℕ) (active : ℕ) (a : A
   len₃ = length-thread w₂ id (storedOf t) few′ ∙ len₂
 
   -- what is outside the new record
-  behind : Same (λ j. 96 + 160 * id ≤ j → j < 256 + 160 * id → ⊥) w₁ w₃
+  behind : Same (λ j. at.threadFrom id ≤ j → j < at.headerSize + at.threadSize * id → ⊥) w₁ w₃
   behind j r =
       thread-writes w₂ id (storedOf t) few′ j (λ o. r (omega (arith, o .here)) (omega (arith, o .here, o .has .small)))
       ∙ wait-writes w₁ id noWait few′ (no-wait-form .few) j (λ o. r (omega (arith, o .here)) (omega (arith, o .here, o .has .to)))
 
-  same : (j : ℕ) → (j ≡ 3 → ⊥) → (96 + 160 * id ≤ j → j < 256 + 160 * id → ⊥) → getD w₃ j 0 ≡ getD w j 0
+  same : (j : ℕ) → (j ≡ 3 → ⊥) → (at.threadFrom id ≤ j → j < at.headerSize + at.threadSize * id → ⊥) → getD w₃ j 0 ≡ getD w j 0
   same j n r = behind j r ∙ read-other w 3 j id n
 
   size : length (l ++ (t ∷ [])) ≡ id
@@ -98,10 +99,10 @@ module _ (w : List ℕ) (s : State) (holder : ℕ → ℕ) (active : ℕ) (a : A
   standing : (xs : List ℕ) → Standing n xs → Standing (length (l ++ (t ∷ []))) xs
   standing xs st = record { within = λ y m. let h = st .within y m in (h .0, omega (arith, h .1, size)); once = st .once }
 
-  of-thread : (i : ℕ) → 1 ≤ i → i ≤ id → Dec (i ≡ id) → Row w₃ (96 + 160 * i) (threadRow (threadAt (l ++ (t ∷ [])) i))
-  of-thread i h k (yes e) = subst (λ (j : ℕ). Row w₃ (96 + 160 * j) (threadRow (threadAt (l ++ (t ∷ [])) j))) (sym e)
-      (subst (λ (x : Thread). Row w₃ (96 + 160 * id) (threadRow x)) (sym (append-new l t)) (thread-shows w₂ id t few′ (omega (arith, len₂, long))))
-  of-thread i h k (no ne) = subst (λ (x : Thread). Row w₃ (96 + 160 * i) (threadRow x)) (sym (append-old l t i (omega (arith, ne))))
+  of-thread : (i : ℕ) → 1 ≤ i → i ≤ id → Dec (i ≡ id) → Row w₃ (at.threadFrom i) (threadRow (threadAt (l ++ (t ∷ [])) i))
+  of-thread i h k (yes e) = subst (λ (j : ℕ). Row w₃ (at.threadFrom j) (threadRow (threadAt (l ++ (t ∷ [])) j))) (sym e)
+      (subst (λ (x : Thread). Row w₃ (at.threadFrom id) (threadRow x)) (sym (append-new l t)) (thread-shows w₂ id t few′ (omega (arith, len₂, long))))
+  of-thread i h k (no ne) = subst (λ (x : Thread). Row w₃ (at.threadFrom i) (threadRow x)) (sym (append-old l t i (omega (arith, ne))))
       (threads-depend w w₃ l (λ j f. same j (λ e. omega (arith, f .here, f .one)) (λ x y. omega (arith, f .here, f .le, f .has .small))) (a .threads) i h (omega (arith, ne)))
 
   of-kept : (i : ℕ) → 1 ≤ i → i ≤ id → Dec (i ≡ id) → WaitKept w₃ i
@@ -126,7 +127,7 @@ module _ (w : List ℕ) (s : State) (holder : ℕ → ℕ) (active : ℕ) (a : A
   pub sim-new : Agreeing (putThread (putWait (set w 3 (suc (length (s .dispatcher .threads)))) (suc (length (s .dispatcher .threads))) noWait) (suc (length (s .dispatcher .threads))) (storedOf (newThread p)))
       (withDispatcher s (withNew (s .dispatcher) (newThread p))) holder active
   sim-new = record {
-    enough = subst (λ (m : ℕ). 256 + 160 * s .limits .threads + 32 * (s .limits .objects + s .limits .dpcs) ≤ m) (sym len₃) (a .enough);
+    enough = subst (λ (m : ℕ). at.headerSize + at.threadSize * s .limits .threads + 32 * (s .limits .objects + s .limits .dpcs) ≤ m) (sym len₃) (a .enough);
     numbers = numbers;
     threads = λ i h k. of-thread i h (omega (arith, size)) (ℕ-discrete i id);
     waits = record { kept = λ i h k. of-kept i h (omega (arith, size)) (ℕ-discrete i id); current = λ i h k. of-wait i h (omega (arith, size)) (ℕ-discrete i id) };

@@ -9,6 +9,7 @@ use native.Mathlib.Omega.{arith}
 use borrow.Author.Tests.{ne-eqb}
 use lib.ListN.{getD, length}
 use lib.Dec.{eqb}
+use Rattle.words.specs.Layout as at
 use Rattle.words.specs.Layout.{entryAt}
 use Rattle.chains.specs.Ready.{waitersChain}
 use Rattle.objects.specs.Objects.{objectCount}
@@ -73,15 +74,15 @@ module _ (w : List ℕ) (s : State) (holder : ℕ → ℕ) (active : ℕ) (a : A
   timer-counts : (p : ℕ) (t : Timer) → isEmpty (waitingNumbers (s .dispatcher)) ≡ false → Row w p (timerRow t) → timerCounts w p ≡ counts (s .dispatcher) t
   unfolding timerCounts isAwaited counts
   timer-counts p t one r =
-      ap (λ (n : ℕ). cond (eqb n 2) (cond (eqb (getD w (p + 5) 0) 0) false (cond (eqb (getD w (p + 8) 0) 0) (cond (eqb (getD w (p + 3) 0) 0) (code.waitsOn w 2 (getD w (p + 0) 0)) false) true)) false) (r 1 2 refl)
-      ∙ ap (λ (n : ℕ). cond (eqb n 0) false (cond (eqb (getD w (p + 8) 0) 0) (cond (eqb (getD w (p + 3) 0) 0) (code.waitsOn w 2 (getD w (p + 0) 0)) false) true)) (r 5 (flag (t .inserted)) refl)
-      ∙ ap (λ (n : ℕ). cond (eqb (flag (t .inserted)) 0) false (cond (eqb n 0) (cond (eqb (getD w (p + 3) 0) 0) (code.waitsOn w 2 (getD w (p + 0) 0)) false) true)) (r 8 (t .dpc) refl)
-      ∙ ap (λ (n : ℕ). cond (eqb (flag (t .inserted)) 0) false (cond (eqb (t .dpc) 0) (cond (eqb n 0) (code.waitsOn w 2 (getD w (p + 0) 0)) false) true)) (r 3 (flag (t .signaled)) refl)
+      ap (λ (n : ℕ). cond (eqb n 2) (cond (eqb (getD w (p + at.inserted) 0) 0) false (cond (eqb (getD w (p + at.timerDpc) 0) 0) (cond (eqb (getD w (p + at.signaled) 0) 0) (code.waitsOn w 2 (getD w (p + at.key) 0)) false) true)) false) (r 1 2 refl)
+      ∙ ap (λ (n : ℕ). cond (eqb n 0) false (cond (eqb (getD w (p + at.timerDpc) 0) 0) (cond (eqb (getD w (p + at.signaled) 0) 0) (code.waitsOn w 2 (getD w (p + at.key) 0)) false) true)) (r 5 (flag (t .inserted)) refl)
+      ∙ ap (λ (n : ℕ). cond (eqb (flag (t .inserted)) 0) false (cond (eqb n 0) (cond (eqb (getD w (p + at.signaled) 0) 0) (code.waitsOn w 2 (getD w (p + at.key) 0)) false) true)) (r 8 (t .dpc) refl)
+      ∙ ap (λ (n : ℕ). cond (eqb (flag (t .inserted)) 0) false (cond (eqb (t .dpc) 0) (cond (eqb n 0) (code.waitsOn w 2 (getD w (p + at.key) 0)) false) true)) (r 3 (flag (t .signaled)) refl)
       ∙ ap (λ (b : Bool). cond (eqb (flag (t .inserted)) 0) false (cond (eqb (t .dpc) 0) (cond (eqb (flag (t .signaled)) 0) b false) true)) awaited
       ∙ either (t .inserted) (t .signaled)
       ∙ ap (λ (b : Bool). cond b false (cond (t .inserted) (cond (eqb (t .dpc) 0) (cond (t .signaled) false (waitsOn d (record { kind = 2; key = t .address }))) true) false)) (sym one)
     where
-      awaited : code.waitsOn w 2 (getD w (p + 0) 0) ≡ waitsOn (s .dispatcher) (record { kind = 2; key = t .address })
+      awaited : code.waitsOn w 2 (getD w (p + at.key) 0) ≡ waitsOn (s .dispatcher) (record { kind = 2; key = t .address })
       awaited = ap (code.waitsOn w 2) (r 0 (t .address) refl) ∙ waits-on-is w s holder active a exact 2 (t .address)
 
       either : (i g : Bool) → cond (eqb (flag i) 0) false (cond (eqb (t .dpc) 0) (cond (eqb (flag g) 0) (waitsOn d (record { kind = 2; key = t .address })) false) true)
@@ -92,10 +93,10 @@ module _ (w : List ℕ) (s : State) (holder : ℕ → ℕ) (active : ℕ) (a : A
 
   looked : (p : ℕ) (o : Object) → isEmpty (waitingNumbers (s .dispatcher)) ≡ false → Row w p (objectRow o) → (e : Due) → dueWith w e p ≡ given (countedDue (s .dispatcher) o) e (λ t. sooner e 1 t)
   unfolding dueWith timerCounts
-  looked p (mutex m) one r e = ap (λ (n : ℕ). cond (cond (eqb n 2) (cond (eqb (getD w (p + 5) 0) 0) false (cond (eqb (getD w (p + 8) 0) 0) (isAwaited w p) true)) false) (sooner e 1 (getD w (p + 6) 0)) e) (r 1 0 refl)
-  looked p (event m) one r e = ap (λ (n : ℕ). cond (cond (eqb n 2) (cond (eqb (getD w (p + 5) 0) 0) false (cond (eqb (getD w (p + 8) 0) 0) (isAwaited w p) true)) false) (sooner e 1 (getD w (p + 6) 0)) e) (r 1 1 refl)
+  looked p (mutex m) one r e = ap (λ (n : ℕ). cond (cond (eqb n 2) (cond (eqb (getD w (p + at.inserted) 0) 0) false (cond (eqb (getD w (p + at.timerDpc) 0) 0) (isAwaited w p) true)) false) (sooner e 1 (getD w (p + at.due) 0)) e) (r 1 0 refl)
+  looked p (event m) one r e = ap (λ (n : ℕ). cond (cond (eqb n 2) (cond (eqb (getD w (p + at.inserted) 0) 0) false (cond (eqb (getD w (p + at.timerDpc) 0) 0) (isAwaited w p) true)) false) (sooner e 1 (getD w (p + at.due) 0)) e) (r 1 1 refl)
   looked p (timer t) one r e =
-      ap (λ (b : Bool). cond b (sooner e 1 (getD w (p + 6) 0)) e) (timer-counts p t one r)
+      ap (λ (b : Bool). cond b (sooner e 1 (getD w (p + at.due) 0)) e) (timer-counts p t one r)
       ∙ ap (λ (n : ℕ). cond (counts d t) (sooner e 1 n) e) (r 6 (t .due) refl)
       ∙ either (counts d t)
     where

@@ -65,10 +65,10 @@ module _ (w : List ℕ) (s : State) (a : Agree w s) (v : Valid s) (id p : ℕ) w
   pub priority-refusal : words.priorityRefusal w id p ≡ priorityRefusal s id p
   unfolding words.priorityRefusal priorityRefusal badPriority notPriority words-object.exited
   priority-refusal =
-      ap (λ (b : Bool). cond (notPriority p) 1 (cond b (cond (cond b (eqb (getD w (at.threadAt id + 1) 0) 4) false) 11 0) 2)) (known-is w s _ _ a id) ∙ go (isThread (s .dispatcher) id) refl
+      ap (λ (b : Bool). cond (notPriority p) 1 (cond b (cond (cond b (eqb (getD w (at.threadAt id + at.state) 0) 4) false) 11 0) 2)) (known-is w s _ _ a id) ∙ go (isThread (s .dispatcher) id) refl
     where
       go : (b : Bool) → isThread (s .dispatcher) id ≡ b
-          → _≡_ {A = ℕ} (cond (notPriority p) 1 (cond b (cond (cond b (eqb (getD w (at.threadAt id + 1) 0) 4) false) 11 0) 2)) (cond (notPriority p) 1 (cond b (cond (hasExited (statusOf (s .dispatcher) id)) 11 0) 2))
+          → _≡_ {A = ℕ} (cond (notPriority p) 1 (cond b (cond (cond b (eqb (getD w (at.threadAt id + at.state) 0) 4) false) 11 0) 2)) (cond (notPriority p) 1 (cond b (cond (hasExited (statusOf (s .dispatcher) id)) 11 0) 2))
       go true q =
           let k = thread-is (s .dispatcher) id q in
           ap (λ (b : Bool). cond (notPriority p) 1 (cond b 11 0))

@@ -4,6 +4,7 @@ use mathlib.Core.List.{List, []}
 use mathlib.Core.Bool.{false}
 use mathlib.Core.Path.{_≡_, refl, sym, ap, _∙_, subst}
 use lib.ListN.{getD, set}
+use Rattle.words.specs.Layout as at
 use Rattle.answers.specs.Outcome.{outcome}
 use Rattle.answers.specs.declared.Answer.the-variants as answer
 use Rattle.words.specs.Word.{topBit}
@@ -43,7 +44,7 @@ module _ (w : List ℕ) (s : State) (a : Agree w s) where
   range y m = let h = a .shape .ready-standing .within y m in let f = a .shape .fit y (h .0) (h .1) in (f .one, f .small)
 
   -- the ready word's top bit
-  pub top-bit-is : topBit (getD w 9 0) ≡ largest (priorityOf (s .dispatcher)) (s .dispatcher .placed)
+  pub top-bit-is : topBit (getD w at.ready 0) ≡ largest (priorityOf (s .dispatcher)) (s .dispatcher .placed)
   top-bit-is = top-is w (priorityOf (s .dispatcher)) (s .dispatcher .placed) pos range (a .queues)
 
   pub top-none : largest (priorityOf (s .dispatcher)) (s .dispatcher .placed) ≡ 0 → s .dispatcher .placed ≡ []

@@ -128,12 +128,12 @@ module _ (w : List ℕ) (s : State) (holder : ℕ → ℕ) (active : ℕ) (a : A
       h : (1 ≤ y) × (y ≤ length (s .dispatcher .threads))
       h = a .shape .waiting-standing .within y m
 
-      by : (o : Option ℕ) → getD w (at.threadAt y + 7) 0 ≡ timed o → ((t : ℕ) → o ≡ some t → getD w (at.threadAt y + 8) 0 ≡ t)
-          → sooner d (getD w (at.threadAt y + 7) 0) (getD w (at.threadAt y + 8) 0) ≡ given o d (λ t. sooner d 1 t)
-      by none e q = ap (λ (n : ℕ). sooner d n (getD w (at.threadAt y + 8) 0)) e
-      by (some t) e q = ap (λ (n : ℕ). sooner d n (getD w (at.threadAt y + 8) 0)) e ∙ ap (sooner d 1) (q t refl)
+      by : (o : Option ℕ) → getD w (at.threadAt y + at.hasDeadline) 0 ≡ timed o → ((t : ℕ) → o ≡ some t → getD w (at.threadAt y + at.deadline) 0 ≡ t)
+          → sooner d (getD w (at.threadAt y + at.hasDeadline) 0) (getD w (at.threadAt y + at.deadline) 0) ≡ given o d (λ t. sooner d 1 t)
+      by none e q = ap (λ (n : ℕ). sooner d n (getD w (at.threadAt y + at.deadline) 0)) e
+      by (some t) e q = ap (λ (n : ℕ). sooner d n (getD w (at.threadAt y + at.deadline) 0)) e ∙ ap (sooner d 1) (q t refl)
 
-      go : (x : Status) → statusOf (s .dispatcher) y ≡ x → isWaiting x ≡ true → sooner d (getD w (at.threadAt y + 7) 0) (getD w (at.threadAt y + 8) 0) ≡ given (deadlineAt y) d (λ t. sooner d 1 t)
+      go : (x : Status) → statusOf (s .dispatcher) y ≡ x → isWaiting x ≡ true → sooner d (getD w (at.threadAt y + at.hasDeadline) 0) (getD w (at.threadAt y + at.deadline) 0) ≡ given (deadlineAt y) d (λ t. sooner d 1 t)
       go running e q = absurd (not-both (sym q))
       go ready e q = absurd (not-both (sym q))
       go (exited n) e q = absurd (not-both (sym q))

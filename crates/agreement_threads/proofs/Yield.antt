@@ -7,6 +7,7 @@ use native.Mathlib.Omega.{arith}
 use borrow.Author.Tests.{eqb-false}
 use lib.ListN.{getD}
 use lib.Dec.{eqb}
+use Rattle.words.specs.Layout as at
 use Rattle.answers.specs.Outcome.{outcome}
 use Rattle.answers.specs.declared.Answer.the-variants as answer
 use Rattle.call_answers.specs.Told.{told}
@@ -30,8 +31,8 @@ module _ (w : List ℕ) (s : State) (a : Agree w s) where
   abbrev c : ℕ
   c = s .dispatcher .current
 
-  current-is : getD w 6 0 ≡ s .dispatcher .current
-  current-is = a .numbers 6 (s .dispatcher .current) refl
+  current-is : getD w at.current 0 ≡ s .dispatcher .current
+  current-is = a .numbers at.current (s .dispatcher .current) refl
 
   pub agree-yield-current : Valid s → Plainly (words.yielded w) (step call.YieldCurrent s)
   unfolding words.yielded refusal yieldRefusal effect yielded becomes

@@ -8,6 +8,7 @@ use native.Mathlib.Omega.{arith}
 use lib.ListN.{getD}
 use lib.Dec.{eqb}
 use borrow.Author.Tests.{eq-eqb}
+use Rattle.words.specs.Layout as at
 use Rattle.images.specs.declared.Timer.{Timer}
 use Rattle.objects.specs.Objects.{placeOf}
 use Rattle.dpcs.specs.Record.{numberOf}
@@ -67,7 +68,7 @@ module _ (w : List ℕ) (s : State) (a : Agree w s) (v : Valid s) (address : ℕ
       subst (λ (m : Outcome). Plainly done m) (sym (cancel-effect s address t e))
       (record {
         answers = ap Flag (inserted-is w s holder active a address t f);
-        agree = subst (λ (b : Bool). Agree (words.disarmed (cond b (queue.withdrawn w (numberOf w (getD w (place + 8) 0))) w) place) s′) (sym (own-queued w s holder active a address t f))
+        agree = subst (λ (b : Bool). Agree (words.disarmed (cond b (queue.withdrawn w (numberOf w (getD w (place + at.timerDpc) 0))) w) place) s′) (sym (own-queued w s holder active a address t f))
             (subst (λ (d : ℕ). Agree (words.disarmed (cond own (queue.withdrawn w (numberOf w d)) w) place) s′) (sym (timer-word w s holder active a address t f 8 (t .dpc) refl))
             (subst (λ (p : ℕ). Agree (words.disarmed (cond own (queue.withdrawn w (numberOf w (t .dpc))) w) p) s′) (sym (timer-place w s holder active a address t f))
             (agree-disarmed w s a v address t f own refl)));

@@ -7,6 +7,7 @@ use mathlib.Core.Path.{_≡_, refl, sym, ap, _∙_, subst}
 use native.Mathlib.Omega.{arith}
 use lib.ListN.{set}
 use lib.Dec.{eqb}
+use Rattle.words.specs.Layout as at
 use Rattle.images.specs.declared.Timer.{Timer}
 use Rattle.images.specs.declared.Dpc.{Dpc}
 use Rattle.images.specs.declared.DpcPhase.{DpcPhase}
@@ -130,9 +131,9 @@ module _ (w : List ℕ) (s : State) (a : Agree w s) (v : Valid s) (k : ℕ) (t :
       let without : ℕ → ℕ = λ b. cond (holds b t) 0 (holder b) in
       let named : t .address ≡ k = found keyOf (s .dispatcher .objects) k (timer t) e .1 in
       let w₂ = words.unnamed w₁ place in
-      subst (λ (n : ℕ). Agreeing (set w₂ (place + 5) 0) s₂ (holderOf (putObject (timer (cancelled t)) (s .dispatcher .objects))) n) (sym (work-active own q))
-      (agreeing-same (set w₂ (place + 5) 0) s₂ without active
-      (subst (λ (n : ℕ). Agreeing (set w₂ (objectsFrom (s .limits) + 32 * below keyOf n (s .dispatcher .objects) + 5) 0) s₂ without active) named
+      subst (λ (n : ℕ). Agreeing (set w₂ (place + at.inserted) 0) s₂ (holderOf (putObject (timer (cancelled t)) (s .dispatcher .objects))) n) (sym (work-active own q))
+      (agreeing-same (set w₂ (place + at.inserted) 0) s₂ without active
+      (subst (λ (n : ℕ). Agreeing (set w₂ (objectsFrom (s .limits) + 32 * below keyOf n (s .dispatcher .objects) + at.inserted) 0) s₂ without active) named
       (sim-put-object w₂ s₁ without active (sim-unnamed w₁ s₁ holder active (work-agrees own q) k t e) (timer t) (timer (cancelled t)) (store 5 0 ∷ [])
       (ap (objectAt (s .dispatcher .objects)) named ∙ e) (a .shape .bounded k (timer t) e) (omega arith, tt) refl))
       (holderOf (putObject (timer (cancelled t)) (s .dispatcher .objects))) after)

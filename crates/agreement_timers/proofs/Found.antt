@@ -8,6 +8,7 @@ use native.Mathlib.Omega.{arith}
 use lib.ListN.{getD, length}
 use lib.Dec.{eqb}
 use borrow.Author.Tests.{eq-eqb, ne-eqb}
+use Rattle.words.specs.Layout as at
 use Rattle.images.specs.declared.Timer.{Timer}
 use Rattle.images.specs.declared.Dpc.{Dpc}
 use Rattle.images.specs.declared.DpcPhase.{DpcPhase}
@@ -54,22 +55,22 @@ module _ (w : List ℕ) (s : State) (holder : ℕ → ℕ) (active : ℕ) (a : A
   pub dpc-missing : (k : ℕ) → dpcAt (s .dpcs .table) k ≡ none → dpcFound w k ≡ 0
   dpc-missing k e =
       tables.dpc-missing addressOf w (dpcsFrom (s .limits)) (s .dpcs .table) low (omega arith) (dpcs-base-is w s holder active a)
-      (a .numbers 5 (length (s .dpcs .table)) refl) few (a .shape .dpcs .rising) (dpc-keys w s holder active a) k e
+      (a .numbers at.dpcs (length (s .dpcs .table)) refl) few (a .shape .dpcs .rising) (dpc-keys w s holder active a) k e
 
   pub dpc-known : (k : ℕ) → eqb (dpcFound w k) 0 ≡ not (present (dpcAt (s .dpcs .table) k))
   dpc-known k =
       tables.dpc-known addressOf w (dpcsFrom (s .limits)) (s .dpcs .table) low (omega arith) (dpcs-base-is w s holder active a)
-      (a .numbers 5 (length (s .dpcs .table)) refl) few (a .shape .dpcs .rising) (dpc-keys w s holder active a) k
+      (a .numbers at.dpcs (length (s .dpcs .table)) refl) few (a .shape .dpcs .rising) (dpc-keys w s holder active a) k
 
   -- word 1 is the phase
-  pub phase-is : (k : ℕ) (d : Dpc) → dpcAt (s .dpcs .table) k ≡ some d → getD w (dpcFound w k + 1) 0 ≡ phaseNumber (d .phase)
+  pub phase-is : (k : ℕ) (d : Dpc) → dpcAt (s .dpcs .table) k ≡ some d → getD w (dpcFound w k + at.phase) 0 ≡ phaseNumber (d .phase)
   phase-is k d e =
-      ap (λ (p : ℕ). getD w (p + 1) 0) (dpc-place w s holder active a k d e) ∙ dpc-row w s holder active a k d e 1 (phaseNumber (d .phase)) refl
+      ap (λ (p : ℕ). getD w (p + at.phase) 0) (dpc-place w s holder active a k d e) ∙ dpc-row w s holder active a k d e 1 (phaseNumber (d .phase)) refl
 
   -- word 3 is the inserted timer that has it
-  pub holder-is : (k : ℕ) (d : Dpc) → dpcAt (s .dpcs .table) k ≡ some d → getD w (dpcFound w k + 3) 0 ≡ holder k
+  pub holder-is : (k : ℕ) (d : Dpc) → dpcAt (s .dpcs .table) k ≡ some d → getD w (dpcFound w k + at.namedBy) 0 ≡ holder k
   holder-is k d e =
-      ap (λ (p : ℕ). getD w (p + 3) 0) (dpc-place w s holder active a k d e) ∙ dpc-row w s holder active a k d e 3 (holder (d .address)) refl
+      ap (λ (p : ℕ). getD w (p + at.namedBy) 0) (dpc-place w s holder active a k d e) ∙ dpc-row w s holder active a k d e 3 (holder (d .address)) refl
       ∙ ap holder (found addressOf (s .dpcs .table) k d e .1)
 
   pub busy-is : (k : ℕ) → words.busy w k ≡ isBusy (phaseAt (s .dpcs .table) k)
@@ -77,10 +78,10 @@ module _ (w : List ℕ) (s : State) (holder : ℕ → ℕ) (active : ℕ) (a : A
   busy-is k = go (dpcAt (s .dpcs .table) k) refl
     where
       go : (o : Option Dpc) → dpcAt (s .dpcs .table) k ≡ o
-          → cond (eqb (dpcFound w k) 0) false (not (eqb (getD w (dpcFound w k + 1) 0) 0)) ≡ isBusy (given o Idle (λ (d : Dpc). d .phase))
-      go none e = ap (λ (b : Bool). cond b false (not (eqb (getD w (dpcFound w k + 1) 0) 0))) (eq-eqb (dpcFound w k) 0 (dpc-missing k e))
+          → cond (eqb (dpcFound w k) 0) false (not (eqb (getD w (dpcFound w k + at.phase) 0) 0)) ≡ isBusy (given o Idle (λ (d : Dpc). d .phase))
+      go none e = ap (λ (b : Bool). cond b false (not (eqb (getD w (dpcFound w k + at.phase) 0) 0))) (eq-eqb (dpcFound w k) 0 (dpc-missing k e))
       go (some d) e =
-          ap (λ (b : Bool). cond b false (not (eqb (getD w (dpcFound w k + 1) 0) 0))) (dpc-known k ∙ ap (λ (o : Option Dpc). not (present o)) e)
+          ap (λ (b : Bool). cond b false (not (eqb (getD w (dpcFound w k + at.phase) 0) 0))) (dpc-known k ∙ ap (λ (o : Option Dpc). not (present o)) e)
           ∙ ap (λ (n : ℕ). not (eqb n 0)) (phase-is k d e) ∙ phase-busy (d .phase)
 
   -- ---- timers

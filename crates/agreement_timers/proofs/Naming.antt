@@ -7,6 +7,7 @@ use mathlib.Core.Path.{_≡_, refl, sym, ap, _∙_, subst}
 use lib.ListN.{getD, set}
 use lib.Dec.{eqb}
 use borrow.Author.Tests.{eq-eqb, ne-eqb, eqb-true, eqb-false}
+use Rattle.words.specs.Layout as at
 use Rattle.images.specs.declared.Timer.{Timer}
 use Rattle.images.specs.declared.Dpc.{Dpc}
 use Rattle.objects.specs.Objects.{dpcFound}
@@ -44,15 +45,15 @@ module _ (w : List ℕ) (s : State) (holder : ℕ → ℕ) (active : ℕ) (a : A
       elsewhere b z e = h b z ∙ ap (λ (t : Bool). cond t n (holder b)) (ne-eqb b k e)
 
       go : (z : Bool) → eqb k 0 ≡ z → (o : Option Dpc) → dpcAt (s .dpcs .table) k ≡ o
-          → Agreeing (cond z w (cond (eqb (dpcFound w k) 0) w (set w (dpcFound w k + 3) n))) s holder′ active
+          → Agreeing (cond z w (cond (eqb (dpcFound w k) 0) w (set w (dpcFound w k + at.namedBy) n))) s holder′ active
       go true q o e = agreeing-same w s holder active a holder′ (λ b z. elsewhere b z (λ y. z (y ∙ eqb-true k 0 q)))
       go false q none e =
-          subst (λ (t : Bool). Agreeing (cond t w (set w (dpcFound w k + 3) n)) s holder′ active) (sym (eq-eqb (dpcFound w k) 0 (dpc-missing w s holder active a k e)))
+          subst (λ (t : Bool). Agreeing (cond t w (set w (dpcFound w k + at.namedBy) n)) s holder′ active) (sym (eq-eqb (dpcFound w k) 0 (dpc-missing w s holder active a k e)))
           (agreeing-at w s holder active a holder′ (λ d m. elsewhere (d .address) (a .shape .dpcs .placed d m)
           (λ y. none-some d (sym e ∙ ap (dpcAt (s .dpcs .table)) (sym y) ∙ mem-found addressOf (s .dpcs .table) (a .shape .dpcs .rising) d m))))
       go false q (some d) e =
-          subst (λ (t : Bool). Agreeing (cond t w (set w (dpcFound w k + 3) n)) s holder′ active) (sym (dpc-known w s holder active a k ∙ ap (λ (x : Option Dpc). not (present x)) e))
-          (agreeing-same (set w (dpcFound w k + 3) n) s (λ b. cond (eqb b k) n (holder b)) active
+          subst (λ (t : Bool). Agreeing (cond t w (set w (dpcFound w k + at.namedBy) n)) s holder′ active) (sym (dpc-known w s holder active a k ∙ ap (λ (x : Option Dpc). not (present x)) e))
+          (agreeing-same (set w (dpcFound w k + at.namedBy) n) s (λ b. cond (eqb b k) n (holder b)) active
           (sim-holder w s holder active a k d e n (λ b. cond (eqb b k) n (holder b)) (ap (λ (t : Bool). cond t n (holder k)) (eq-eqb k k refl))
           (λ b y. ap (λ (t : Bool). cond t n (holder b)) (ne-eqb b k y))) holder′ h)
 
@@ -61,8 +62,8 @@ module _ (w : List ℕ) (s : State) (holder : ℕ → ℕ) (active : ℕ) (a : A
       → Agreeing (words.unnamed w (objectsFrom (s .limits) + 32 * below keyOf k (s .dispatcher .objects))) s (λ b. cond (holds b t) 0 (holder b)) active
   unfolding words.unnamed isInserted
   sim-unnamed k t e =
-      subst (λ (i : ℕ). Agreeing (cond (not (eqb i 0)) (words.named w (getD w (place + 8) 0) 0) w) s without active) (sym (row 5 (flag (t .inserted)) refl))
-      (subst (λ (i : Bool). Agreeing (cond i (words.named w (getD w (place + 8) 0) 0) w) s without active) (sym (flag-read (t .inserted)))
+      subst (λ (i : ℕ). Agreeing (cond (not (eqb i 0)) (words.named w (getD w (place + at.timerDpc) 0) 0) w) s without active) (sym (row 5 (flag (t .inserted)) refl))
+      (subst (λ (i : Bool). Agreeing (cond i (words.named w (getD w (place + at.timerDpc) 0) 0) w) s without active) (sym (flag-read (t .inserted)))
       (subst (λ (d : ℕ). Agreeing (cond (t .inserted) (words.named w d 0) w) s without active) (sym (row 8 (t .dpc) refl))
       (go (t .inserted) refl)))
     where

@@ -11,6 +11,7 @@ use borrow.Author.Tests.{eq-eqb, ne-eqb, ltb-true, ltb-false}
 use Rattle.images.specs.declared.Timer.{Timer}
 use Rattle.images.specs.declared.Dpc.{Dpc}
 use Rattle.images.specs.Place.{overlaps, architectureNumber, architectureOf, timerSize, dpcSize}
+use Rattle.words.specs.Layout as at
 use Rattle.words.specs.Layout.{entryAt}
 use Rattle.tables.specs.Table.{position}
 use Rattle.objects.specs.Objects.{objectsBase, objectCount, dpcsBase}
@@ -80,12 +81,12 @@ module _ (w : List ℕ) (s : State) (holder : ℕ → ℕ) (active : ℕ) (a : A
       (last-stands w base low (omega arith) objects (omega (arith, few)) (a .objects) (below keyOf end objects) (below-le keyOf end objects))))
 
   timer-range : (address size place : ℕ) (o : Option Timer) → Stands w place o
-      → cond (eqb place 0) false (overlaps address size (getD w (place + 0) 0) (sizeAt w place)) ≡ given o false (λ (t : Timer). overlaps address size (t .address) (timerSize (t .architecture)))
+      → cond (eqb place 0) false (overlaps address size (getD w (place + at.key) 0) (sizeAt w place)) ≡ given o false (λ (t : Timer). overlaps address size (t .address) (timerSize (t .architecture)))
   unfolding sizeAt
   timer-range address size place none e =
-      ap (λ (b : Bool). cond b false (overlaps address size (getD w (place + 0) 0) (sizeAt w place))) (eq-eqb place 0 e)
+      ap (λ (b : Bool). cond b false (overlaps address size (getD w (place + at.key) 0) (sizeAt w place))) (eq-eqb place 0 e)
   timer-range address size place (some t) e =
-      ap (λ (b : Bool). cond b false (overlaps address size (getD w (place + 0) 0) (sizeAt w place))) (ne-eqb place 0 (λ z. omega (arith, e .0)))
+      ap (λ (b : Bool). cond b false (overlaps address size (getD w (place + at.key) 0) (sizeAt w place))) (ne-eqb place 0 (λ z. omega (arith, e .0)))
       ∙ ap (λ (n : ℕ). overlaps address size n (sizeAt w place)) (e .1 0 (t .address) refl)
       ∙ ap (λ (n : ℕ). overlaps address size (t .address) (timerSize (architectureOf n))) (e .1 12 (architectureNumber (t .architecture)) refl)
       ∙ ap (λ x. overlaps address size (t .address) (timerSize x)) (architecture-read (t .architecture))
@@ -114,8 +115,8 @@ module _ (w : List ℕ) (s : State) (holder : ℕ → ℕ) (active : ℕ) (a : A
       let x = nth-some table n (omega arith) in
       let d = x .0 in
       let place = base′ + 32 * n in
-      ap (λ (p : ℕ). cond (eqb p 0) false (overlaps address size (getD w (p + 0) 0) (dpcSizeAt w p))) there
-      ∙ ap (λ (b : Bool). cond b false (overlaps address size (getD w (place + 0) 0) (dpcSizeAt w place))) (ne-eqb place 0 (λ z. omega arith))
+      ap (λ (p : ℕ). cond (eqb p 0) false (overlaps address size (getD w (p + at.address) 0) (dpcSizeAt w p))) there
+      ∙ ap (λ (b : Bool). cond b false (overlaps address size (getD w (place + at.address) 0) (dpcSizeAt w place))) (ne-eqb place 0 (λ z. omega arith))
       ∙ ap (λ (k : ℕ). overlaps address size k (dpcSizeAt w place)) (a .dpcs n d (x .1) 0 (d .address) refl)
       ∙ ap (λ (k : ℕ). overlaps address size (d .address) (dpcSize (architectureOf k))) (a .dpcs n d (x .1) 4 (architectureNumber (d .architecture)) refl)
       ∙ ap (λ y. overlaps address size (d .address) (dpcSize y)) (architecture-read (d .architecture))
@@ -131,7 +132,7 @@ module _ (w : List ℕ) (s : State) (holder : ℕ → ℕ) (active : ℕ) (a : A
   unfolding words.overlapsDpc words.lastDpc
   overlaps-dpc address size =
       let end = endOf address size in
-      let at : ℕ → ℕ → Bool = λ b n. let p : ℕ = cond (eqb n 0) 0 (entryAt b (n - 1)) in cond (eqb size 0) false (cond (eqb p 0) false (overlaps address size (getD w (p + 0) 0) (dpcSizeAt w p))) in
+      let at : ℕ → ℕ → Bool = λ b n. let p : ℕ = cond (eqb n 0) 0 (entryAt b (n - 1)) in cond (eqb size 0) false (cond (eqb p 0) false (overlaps address size (getD w (p + at.address) 0) (dpcSizeAt w p))) in
       ap (λ (e : ℕ). at (dpcsBase w) (position w (dpcsBase w) (dpcCount w) e)) (end-is address size)
       ∙ ap (λ (b : ℕ). at b (position w b (dpcCount w) end)) (dpcs-base-is w s holder active a)
       ∙ ap (at base′) (position-is addressOf w base′ table low′ (omega (arith, dpcs-few w s holder active a)) (a .shape .dpcs .rising) (dpc-keys w s holder active a) (dpcCount w) end (dpc-count-is w s holder active a))

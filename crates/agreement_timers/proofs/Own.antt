@@ -7,6 +7,7 @@ use mathlib.Core.Path.{_≡_, refl, sym, ap, _∙_, subst}
 use lib.ListN.{getD}
 use lib.Dec.{eqb}
 use borrow.Author.Tests.{eq-eqb}
+use Rattle.words.specs.Layout as at
 use Rattle.images.specs.declared.Timer.{Timer}
 use Rattle.images.specs.declared.Dpc.{Dpc}
 use Rattle.images.specs.declared.DpcOrigin.{DpcOrigin}
@@ -34,27 +35,27 @@ same-policy (cpu0Dispatch first second) = refl
 
 module _ (w : List ℕ) (place : ℕ) (t : Timer) (row : Row w place (timerRow t)) (at holder : ℕ) (d : Dpc) where
   own-origin : (o : DpcOrigin) (sequence first second : ℕ) → Row w at (beforeWork holder d 1 ++ (some sequence ∷ some first ∷ some second ∷ originRow o))
-      → cond (eqb (getD w (at + 14) 0) 1) (words.ownOrigin w place at) false ≡ isFrom t o
+      → cond (eqb (getD w (at + at.origin) 0) 1) (words.ownOrigin w place at) false ≡ isFrom t o
   unfolding words.ownOrigin words.sameWord
   own-origin origin.Caller sequence first second r =
       ap (λ (n : ℕ). cond (eqb n 1) (words.ownOrigin w place at) false) (r 14 0 refl)
   own-origin (origin.Timer address arm initialization deadline observed periodic) sequence first second r =
       ap (λ (n : ℕ). cond (eqb n 1) (words.ownOrigin w place at) false) (r 14 1 refl)
-      ∙ ap (λ (n : ℕ). cond (eqb n (getD w (place + 0) 0)) (cond (words.sameWord w (at + 16) (place + 10)) (words.sameWord w (at + 17) (place + 11)) false) false) (r 15 address refl)
-      ∙ ap (λ (n : ℕ). cond (eqb address n) (cond (words.sameWord w (at + 16) (place + 10)) (words.sameWord w (at + 17) (place + 11)) false) false) (row 0 (t .address) refl)
-      ∙ ap (λ (n : ℕ). cond (eqb address (t .address)) (cond (eqb n (getD w (place + 10) 0)) (words.sameWord w (at + 17) (place + 11)) false) false) (r 16 arm refl)
-      ∙ ap (λ (n : ℕ). cond (eqb address (t .address)) (cond (eqb arm n) (words.sameWord w (at + 17) (place + 11)) false) false) (row 10 (t .«arm_generation») refl)
-      ∙ ap (λ (n : ℕ). cond (eqb address (t .address)) (cond (eqb arm (t .«arm_generation»)) (eqb n (getD w (place + 11) 0)) false) false) (r 17 initialization refl)
+      ∙ ap (λ (n : ℕ). cond (eqb n (getD w (place + at.key) 0)) (cond (words.sameWord w (at + at.originArm) (place + at.arm)) (words.sameWord w (at + at.originInitialization) (place + at.initialization)) false) false) (r 15 address refl)
+      ∙ ap (λ (n : ℕ). cond (eqb address n) (cond (words.sameWord w (at + at.originArm) (place + at.arm)) (words.sameWord w (at + at.originInitialization) (place + at.initialization)) false) false) (row 0 (t .address) refl)
+      ∙ ap (λ (n : ℕ). cond (eqb address (t .address)) (cond (eqb n (getD w (place + at.arm) 0)) (words.sameWord w (at + at.originInitialization) (place + at.initialization)) false) false) (r 16 arm refl)
+      ∙ ap (λ (n : ℕ). cond (eqb address (t .address)) (cond (eqb arm n) (words.sameWord w (at + at.originInitialization) (place + at.initialization)) false) false) (row 10 (t .«arm_generation») refl)
+      ∙ ap (λ (n : ℕ). cond (eqb address (t .address)) (cond (eqb arm (t .«arm_generation»)) (eqb n (getD w (place + at.initialization) 0)) false) false) (r 17 initialization refl)
       ∙ ap (λ (n : ℕ). cond (eqb address (t .address)) (cond (eqb arm (t .«arm_generation»)) (eqb initialization n) false) false) (row 11 (t .initialization) refl)
 
   own-work : (p : DpcPhase) → Row w at (beforeWork holder d (phaseNumber p) ++ workRow (workOf p)) → words.ownWork w place at ≡ ownQueued t p
   unfolding words.ownWork
-  own-work Idle r = ap (λ (n : ℕ). cond (eqb n 1) (cond (eqb (getD w (at + 14) 0) 1) (words.ownOrigin w place at) false) false) (r 1 0 refl)
+  own-work Idle r = ap (λ (n : ℕ). cond (eqb n 1) (cond (eqb (getD w (at + at.origin) 0) 1) (words.ownOrigin w place at) false) false) (r 1 0 refl)
   own-work (Queued x) r =
-      ap (λ (n : ℕ). cond (eqb n 1) (cond (eqb (getD w (at + 14) 0) 1) (words.ownOrigin w place at) false) false) (r 1 1 refl)
+      ap (λ (n : ℕ). cond (eqb n 1) (cond (eqb (getD w (at + at.origin) 0) 1) (words.ownOrigin w place at) false) false) (r 1 1 refl)
       ∙ own-origin (x .origin) (x .sequence) (x .first) (x .second) r
-  own-work (Running x) r = ap (λ (n : ℕ). cond (eqb n 1) (cond (eqb (getD w (at + 14) 0) 1) (words.ownOrigin w place at) false) false) (r 1 2 refl)
-  own-work (Returning x) r = ap (λ (n : ℕ). cond (eqb n 1) (cond (eqb (getD w (at + 14) 0) 1) (words.ownOrigin w place at) false) false) (r 1 3 refl)
+  own-work (Running x) r = ap (λ (n : ℕ). cond (eqb n 1) (cond (eqb (getD w (at + at.origin) 0) 1) (words.ownOrigin w place at) false) false) (r 1 2 refl)
+  own-work (Returning x) r = ap (λ (n : ℕ). cond (eqb n 1) (cond (eqb (getD w (at + at.origin) 0) 1) (words.ownOrigin w place at) false) false) (r 1 3 refl)
 
 module _ (w : List ℕ) (s : State) (holder : ℕ → ℕ) (active : ℕ) (a : Agreeing w s holder active) (k : ℕ) (t : Timer) (e : objectAt (s .dispatcher .objects) k ≡ some (timer t)) where
   row : Row w (placeOf w 2 k) (timerRow t)
@@ -76,8 +77,8 @@ module _ (w : List ℕ) (s : State) (holder : ℕ → ℕ) (active : ℕ) (a : A
   unfolding words.ownQueued cancelsWork
   own-queued =
       let own : ℕ → Bool = λ d. cond (eqb d 0) false (cond (eqb (dpcFound w d) 0) false (words.ownWork w (placeOf w 2 k) (dpcFound w d))) in
-      ap (λ (b : Bool). cond b (cond (eqb (getD w 10 0) 0) false (own (getD w (placeOf w 2 k + 8) 0))) false) (inserted-is w s holder active a k t e)
-      ∙ ap (λ (n : ℕ). cond (t .inserted) (cond (eqb n 0) false (own (getD w (placeOf w 2 k + 8) 0))) false) (a .numbers 10 (policyNumber (s .policy)) refl)
-      ∙ ap (λ (b : Bool). cond (t .inserted) (cond b false (own (getD w (placeOf w 2 k + 8) 0))) false) (same-policy (s .policy))
+      ap (λ (b : Bool). cond b (cond (eqb (getD w at.policy 0) 0) false (own (getD w (placeOf w 2 k + at.timerDpc) 0))) false) (inserted-is w s holder active a k t e)
+      ∙ ap (λ (n : ℕ). cond (t .inserted) (cond (eqb n 0) false (own (getD w (placeOf w 2 k + at.timerDpc) 0))) false) (a .numbers at.policy (policyNumber (s .policy)) refl)
+      ∙ ap (λ (b : Bool). cond (t .inserted) (cond b false (own (getD w (placeOf w 2 k + at.timerDpc) 0))) false) (same-policy (s .policy))
       ∙ ap (λ (n : ℕ). cond (t .inserted) (cond (isUnselected (s .policy)) false (own n)) false) (timer-word w s holder active a k t e 8 (t .dpc) refl)
       ∙ ap (λ (b : Bool). cond (t .inserted) (cond (isUnselected (s .policy)) false (cond (eqb (t .dpc) 0) false b)) false) at-dpc

@@ -9,6 +9,7 @@ use lib.ListN.{getD}
 use lib.Dec.{eqb, leb}
 use lib.IntN.{ℤ, pos, negsuc}
 use borrow.Author.Tests.{eq-eqb, ne-eqb, eqb-false, leb-true, le-leb}
+use Rattle.words.specs.Layout as at
 use Rattle.images.specs.declared.Timer.{Timer}
 use Rattle.images.specs.declared.Dpc.{Dpc}
 use Rattle.objects.specs.Objects.{placeOf, dpcFound}
@@ -53,7 +54,7 @@ module _ (w : List ℕ) (s : State) (a : Agree w s) (v : Valid s) (address : ℕ
   place = placeOf w 2 address
 
   abbrev armed : ℕ
-  armed = cond (words.formerBusy w place) 19 (cond (eqb place 0) 2 (cond (eqb (getD w (place + 10) 0) words.largest) 24 0))
+  armed = cond (words.formerBusy w place) 19 (cond (eqb place 0) 2 (cond (eqb (getD w (place + at.arm) 0) words.largest) 24 0))
 
   arm-refusal : armed ≡ armRefusal s address
   unfolding words.formerBusy armRefusal
@@ -61,21 +62,21 @@ module _ (w : List ℕ) (s : State) (a : Agree w s) (v : Valid s) (address : ℕ
     where
       go : (o : Option Timer) → timerAt (s .dispatcher .objects) address ≡ o
           → _≡_ {A = ℕ}
-          (cond (cond (eqb place 0) false (cond (eqb (getD w (place + 8) 0) 0) false (busy w (getD w (place + 8) 0)))) 19
-          (cond (eqb place 0) 2 (cond (eqb (getD w (place + 10) 0) words.largest) 24 0)))
+          (cond (cond (eqb place 0) false (cond (eqb (getD w (place + at.timerDpc) 0) 0) false (busy w (getD w (place + at.timerDpc) 0)))) 19
+          (cond (eqb place 0) 2 (cond (eqb (getD w (place + at.arm) 0) words.largest) 24 0)))
           (given o 2 (λ (t : Timer). cond (formerBusy s t) 19 (cond (leb most (t .«arm_generation»)) 24 0)))
       go none e =
-          ap (λ (b : Bool). cond (cond b false (cond (eqb (getD w (place + 8) 0) 0) false (busy w (getD w (place + 8) 0)))) 19
-          (cond b 2 (cond (eqb (getD w (place + 10) 0) words.largest) 24 0)))
+          ap (λ (b : Bool). cond (cond b false (cond (eqb (getD w (place + at.timerDpc) 0) 0) false (busy w (getD w (place + at.timerDpc) 0)))) 19
+          (cond b 2 (cond (eqb (getD w (place + at.arm) 0) words.largest) 24 0)))
           (eq-eqb place 0 (timer-missing w s holder active a address e))
       go (some t) e =
           let f = timer-object (s .dispatcher .objects) address t e in
-          ap (λ (b : Bool). cond (cond b false (cond (eqb (getD w (place + 8) 0) 0) false (busy w (getD w (place + 8) 0)))) 19
-          (cond b 2 (cond (eqb (getD w (place + 10) 0) words.largest) 24 0)))
+          ap (λ (b : Bool). cond (cond b false (cond (eqb (getD w (place + at.timerDpc) 0) 0) false (busy w (getD w (place + at.timerDpc) 0)))) 19
+          (cond b 2 (cond (eqb (getD w (place + at.arm) 0) words.largest) 24 0)))
           (timer-known w s holder active a address t f)
-          ∙ ap (λ (d : ℕ). cond (cond (eqb d 0) false (busy w d)) 19 (cond (eqb (getD w (place + 10) 0) words.largest) 24 0))
+          ∙ ap (λ (d : ℕ). cond (cond (eqb d 0) false (busy w d)) 19 (cond (eqb (getD w (place + at.arm) 0) words.largest) 24 0))
           (timer-word w s holder active a address t f 8 (t .dpc) refl)
-          ∙ ap (λ (b : Bool). cond (cond (eqb (t .dpc) 0) false b) 19 (cond (eqb (getD w (place + 10) 0) words.largest) 24 0)) (busy-is w s holder active a (t .dpc))
+          ∙ ap (λ (b : Bool). cond (cond (eqb (t .dpc) 0) false b) 19 (cond (eqb (getD w (place + at.arm) 0) words.largest) 24 0)) (busy-is w s holder active a (t .dpc))
           ∙ ap (λ (n : ℕ). cond (formerBusy s t) 19 (cond (eqb n words.largest) 24 0)) (timer-word w s holder active a address t f 10 (t .«arm_generation») refl)
           ∙ ap (λ (b : Bool). cond (formerBusy s t) 19 (cond b 24 0)) (at-end (t .«arm_generation») (a .shape .bounded address (timer t) f .0))
 

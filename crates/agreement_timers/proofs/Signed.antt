@@ -7,6 +7,7 @@ use native.Mathlib.Omega.{arith}
 use lib.Dec.{eqb, ltb}
 use lib.IntN.{ℤ, pos, negsuc}
 use borrow.Author.Tests.{ltb-false}
+use Rattle.words.specs.Layout as at
 use Rattle.answers.specs.declared.Answer.the-variants as answer
 use Rattle.answers.specs.Outcome as code
 use Rattle.arming.specs.Arm as words
@@ -49,7 +50,7 @@ module _ (w : List ℕ) (s : State) (a : Agree w s) (v : Valid s) (address : ℕ
       (agree-set-timer w s a v address d true (pos n) dpc (omega (arith, fits)))
   agree-set-timer-signed (negsuc d) (pos n) dpc fits =
       subst (λ (t : ℕ). Plainly (cond (ltb words.largest t) (code.outcome (answer.Refused 13) w) (words.timerSet w address t false (pos n) dpc)) (step (call.SetTimerSigned address (negsuc d) (pos n) dpc) s))
-      (sym (ap (λ (t : ℕ). t + (d + 1)) (a .numbers 8 (s .now) refl) ∙ (let z : s .now + (d + 1) ≡ signedDue (s .now) (negsuc d) = omega arith in z)))
+      (sym (ap (λ (t : ℕ). t + (d + 1)) (a .numbers at.now (s .now) refl) ∙ (let z : s .now + (d + 1) ≡ signedDue (s .now) (negsuc d) = omega arith in z)))
       (go (ltb most (signedDue (s .now) (negsuc d))) refl)
     where
       go : (b : Bool) → ltb most (signedDue (s .now) (negsuc d)) ≡ b

@@ -8,6 +8,7 @@ use native.Mathlib.Omega.{arith}
 use lib.ListN.{getD, length}
 use lib.Dec.{eqb}
 use borrow.Author.Tests.{eq-eqb}
+use Rattle.words.specs.Layout as at
 use Rattle.images.specs.declared.Timer.{Timer}
 use Rattle.objects.specs.Objects.{objectCount, placeOf}
 use Rattle.timers.specs.Record as record-of
@@ -78,7 +79,7 @@ module _ (w : List ℕ) (s : State) (holder : ℕ → ℕ) (active : ℕ) (a : A
 
   pub agree-timer-initializations : told (words.timerInitializations w) ≡ step (call.Reads call.TimerInitializations) s .answer
   unfolding words.timerInitializations readRefusal readAnswer
-  agree-timer-initializations = ap Number (a .numbers 19 (s .timerInitializations) refl) ∙ sym (read-is call.TimerInitializations s refl)
+  agree-timer-initializations = ap Number (a .numbers at.timerInitializations (s .timerInitializations) refl) ∙ sym (read-is call.TimerInitializations s refl)
 
   -- ---- timers, by position
 
@@ -101,14 +102,14 @@ module _ (w : List ℕ) (s : State) (holder : ℕ → ℕ) (active : ℕ) (a : A
   other-objects : (place : ℕ) (y : Object) → Row w place (objectRow y) → eqb (kindOf y) 2 ≡ false → words.isPending w place ≡ false
   unfolding words.isPending
   other-objects place y r e =
-      ap (λ (b : Bool). cond b (cond (isInserted w place) (not (eqb (getD w (place + 8) 0) 0)) false) false) (timer-here w base low (omega arith) place y r ∙ e)
+      ap (λ (b : Bool). cond b (cond (isInserted w place) (not (eqb (getD w (place + at.timerDpc) 0) 0)) false) false) (timer-here w base low (omega arith) place y r ∙ e)
 
   pending-timer : (place : ℕ) (t : Timer) → Row w place (timerRow t) → words.isPending w place ≡ isPending t
   unfolding words.isPending isInserted isPending
   pending-timer place t r =
-      ap (λ (b : Bool). cond b (cond (isInserted w place) (not (eqb (getD w (place + 8) 0) 0)) false) false) (timer-here w base low (omega arith) place (timer t) r)
-      ∙ ap (λ (n : ℕ). cond (not (eqb n 0)) (not (eqb (getD w (place + 8) 0) 0)) false) (r 5 (flag (t .inserted)) refl)
-      ∙ ap (λ (b : Bool). cond b (not (eqb (getD w (place + 8) 0) 0)) false) (flag-read (t .inserted))
+      ap (λ (b : Bool). cond b (cond (isInserted w place) (not (eqb (getD w (place + at.timerDpc) 0) 0)) false) false) (timer-here w base low (omega arith) place (timer t) r)
+      ∙ ap (λ (n : ℕ). cond (not (eqb n 0)) (not (eqb (getD w (place + at.timerDpc) 0) 0)) false) (r 5 (flag (t .inserted)) refl)
+      ∙ ap (λ (b : Bool). cond b (not (eqb (getD w (place + at.timerDpc) 0) 0)) false) (flag-read (t .inserted))
       ∙ ap (λ (n : ℕ). cond (t .inserted) (not (eqb n 0)) false) (r 8 (t .dpc) refl)
       ∙ ap (λ (b : Bool). cond (t .inserted) b false) (go (eqb (t .dpc) 0))
     where

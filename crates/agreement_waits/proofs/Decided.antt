@@ -7,6 +7,7 @@ use mathlib.Core.Path.{_≡_, refl, sym, ap, _∙_, subst}
 use native.Mathlib.Omega.{arith}
 use borrow.Author.Tests.{leb-false}
 use lib.Dec.{leb, ltb}
+use Rattle.words.specs.Layout as at
 use Rattle.answers.specs.Outcome.{outcome, unless}
 use Rattle.answers.specs.declared.Answer.the-variants as answer
 use Rattle.threads.specs.declared.Wait as stored-wait
@@ -44,7 +45,7 @@ module _ (w : List ℕ) (s : State) (a : Agree w s) (v : Valid s) (here : s .dis
 
   block-refusal : (irql : ℕ) → words.blockRefusal w irql ≡ cond (ltb 1 irql) 9 (sequenceRefusal s)
   unfolding words.blockRefusal sequenceRefusal
-  block-refusal irql = ap (λ (n : ℕ). cond (ltb 1 irql) 9 (cond (leb (2 ^ 64 - 1) n) 24 0)) (a .numbers 7 (s .dispatcher .sequence) refl)
+  block-refusal irql = ap (λ (n : ℕ). cond (ltb 1 irql) 9 (cond (leb (2 ^ 64 - 1) n) 24 0)) (a .numbers at.sequence (s .dispatcher .sequence) refl)
 
   -- not refused, so the wait sequence can go on
   goes-on : (irql : ℕ) → cond (ltb 1 irql) 9 (sequenceRefusal s) ≡ 0 → s .dispatcher .sequence < 2 ^ 64 - 1

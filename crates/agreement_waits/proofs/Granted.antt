@@ -50,11 +50,11 @@ module _ (w : List ℕ) (s : State) (a : Agree w s) (v : Valid s) (here : s .dis
   abbrev after : State
   after = withDispatcher s (withOwnResult (withObjects (s .dispatcher) (takes (s .dispatcher) (s .dispatcher .current) (pairs list) all)) (some (satisfied (index (s .dispatcher) (pairs list) all))))
 
-  takes-and-goes-on : Agree (set (takesList w (s .dispatcher .current) list (length (pairs list)) (flag all)) (at.threadAt (s .dispatcher .current) + 4)
+  takes-and-goes-on : Agree (set (takesList w (s .dispatcher .current) list (length (pairs list)) (flag all)) (at.threadAt (s .dispatcher .current) + at.result)
       (index (s .dispatcher) (pairs list) all + 2)) after
   takes-and-goes-on =
       let k = current-known s v here in
-      agree-held (set (takesList w c list (length (pairs list)) (flag all)) (at.threadAt c + 4) (i + 2)) s after
+      agree-held (set (takesList w c list (length (pairs list)) (flag all)) (at.threadAt c + at.result) (i + 2)) s after
       (sim-result (takesList w c list (length (pairs list)) (flag all)) (withTable s (takes (s .dispatcher) c (pairs list) all)) _ _
       (sim-takes-list w s _ _ a c list (pairs list) all (pairs-row list) met) c (some (satisfied i)) (k .0) (k .1))
       (held-takes (s .dispatcher) c (pairs list) all (a .shape .rising))
@@ -66,7 +66,7 @@ module _ (w : List ℕ) (s : State) (a : Agree w s) (v : Valid s) (here : s .dis
   pub agree-granted : Plainly (words.granted w (s .dispatcher .current) list (length (pairs list)) (bit all)) (granted s (pairs list) all)
   unfolding words.granted words.withResult granted
   agree-granted =
-      subst (λ (n : ℕ). Plainly (outcome (answer.Satisfied n) (set (takesList w c list (length (pairs list)) (bit all)) (at.threadAt c + 4) ((n + 2) % 2 ^ 64))) (granted s (pairs list) all))
+      subst (λ (n : ℕ). Plainly (outcome (answer.Satisfied n) (set (takesList w c list (length (pairs list)) (bit all)) (at.threadAt c + at.result) ((n + 2) % 2 ^ 64))) (granted s (pairs list) all))
       (sym (index-in w s _ _ a list 0 (pairs list) all (pairs-row list)))
-      (subst (λ (n : ℕ). Plainly (outcome (answer.Satisfied i) (set (takesList w c list (length (pairs list)) (bit all)) (at.threadAt c + 4) n)) (granted s (pairs list) all)) (sym result-is)
+      (subst (λ (n : ℕ). Plainly (outcome (answer.Satisfied i) (set (takesList w c list (length (pairs list)) (bit all)) (at.threadAt c + at.result) n)) (granted s (pairs list) all)) (sym result-is)
       (record { answers = refl; agree = takes-and-goes-on }))

@@ -7,6 +7,7 @@ use mathlib.Core.Path.{_≡_, refl, sym, ap, _∙_, subst}
 use native.Mathlib.Omega.{arith}
 use borrow.Author.Tests.{eq-eqb}
 use lib.ListN.{set, length}
+use Rattle.words.specs.Layout as at
 use Rattle.threads.specs.declared.Thread as stored
 use Rattle.threads.specs.declared.Wait as stored-wait
 use Rattle.threads.specs.Thread.{putThread, putWait}
@@ -90,7 +91,7 @@ module _ (w : List ℕ) (s : State) (holder : ℕ → ℕ) (active : ℕ) (a : A
     waits : Agreeing w₃ s₂ holder active
     waits = sim-wait w₂ s₂ holder active leaves c y one le form (ap isWaiting runs)
 
-    few : s .dispatcher .current ≤ 256
+    few : s .dispatcher .current ≤ at.mostThreads
     few = omega (arith, le, threads-few w s holder active a)
 
     shown : WaitOf w₃ c (waiting (newWait (s .dispatcher) objects all deadline))

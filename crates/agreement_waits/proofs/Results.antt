@@ -25,18 +25,18 @@ module _ (w : List ℕ) (s : State) (holder : ℕ → ℕ) (active : ℕ) (a : A
   p = at.threadAt id
 
   -- the words of the record that stay are written as they were
-  result-alone : putThread w id (storedOf (withResult (threadOf (s .dispatcher) id) r)) ≡ set w (at.threadAt id + 4) (resultNumber r)
+  result-alone : putThread w id (storedOf (withResult (threadOf (s .dispatcher) id) r)) ≡ set w (at.threadAt id + at.result) (resultNumber r)
   unfolding putThread
   result-alone =
-      ap (λ (v : List ℕ). set (set (set v (p + 1) (statusNumber (t .status))) (p + 4) (resultNumber r)) (p + 5) (exitStatus (t .status)))
-      (ap (set w (p + 0)) (sym (thread-word-is w s holder active a id one le 0 (t .priority) refl)) ∙ set-getD w (p + 0) 0)
-      ∙ ap (λ (v : List ℕ). set (set v (p + 4) (resultNumber r)) (p + 5) (exitStatus (t .status)))
-      (ap (set w (p + 1)) (sym (thread-word-is w s holder active a id one le 1 (statusNumber (t .status)) refl)) ∙ set-getD w (p + 1) 0)
-      ∙ ap (set (set w (p + 4) (resultNumber r)) (p + 5))
-      (sym (read-other w (p + 4) (p + 5) (resultNumber r) (λ e. omega arith) ∙ thread-word-is w s holder active a id one le 5 (exitStatus (t .status)) refl))
-      ∙ set-getD (set w (p + 4) (resultNumber r)) (p + 5) 0
+      ap (λ (v : List ℕ). set (set (set v (p + at.state) (statusNumber (t .status))) (p + at.result) (resultNumber r)) (p + at.status) (exitStatus (t .status)))
+      (ap (set w (p + at.priority)) (sym (thread-word-is w s holder active a id one le 0 (t .priority) refl)) ∙ set-getD w (p + at.priority) 0)
+      ∙ ap (λ (v : List ℕ). set (set v (p + at.result) (resultNumber r)) (p + at.status) (exitStatus (t .status)))
+      (ap (set w (p + at.state)) (sym (thread-word-is w s holder active a id one le 1 (statusNumber (t .status)) refl)) ∙ set-getD w (p + at.state) 0)
+      ∙ ap (set (set w (p + at.result) (resultNumber r)) (p + at.status))
+      (sym (read-other w (p + at.result) (p + at.status) (resultNumber r) (λ e. omega arith) ∙ thread-word-is w s holder active a id one le 5 (exitStatus (t .status)) refl))
+      ∙ set-getD (set w (p + at.result) (resultNumber r)) (p + at.status) 0
 
-  pub sim-result : Agreeing (set w (at.threadAt id + 4) (resultNumber r)) (withDispatcher s (withThread (s .dispatcher) id (withResult (threadOf (s .dispatcher) id) r))) holder active
+  pub sim-result : Agreeing (set w (at.threadAt id + at.result) (resultNumber r)) (withDispatcher s (withThread (s .dispatcher) id (withResult (threadOf (s .dispatcher) id) r))) holder active
   sim-result =
       subst (λ (v : List ℕ). Agreeing v (withDispatcher s (withThread (s .dispatcher) id (withResult t r))) holder active) result-alone
       (sim-thread w s holder active a id (withResult t r) one le

@@ -8,6 +8,7 @@ use native.Mathlib.Omega.{arith}
 use borrow.Author.Tests.{eqb-false}
 use lib.ListN.{getD, length}
 use lib.Dec.{eqb, leb, ltb}
+use Rattle.words.specs.Layout as at
 use Rattle.answers.specs.Outcome as code
 use Rattle.answers.specs.Outcome.{unless, bit}
 use Rattle.threads.specs.Thread.{recorded}
@@ -61,8 +62,8 @@ module _ (w : List ℕ) (s : State) (a : Agree w s) (v : Valid s) (list : List �
     count : pairCount list ≡ length (pairs list)
     count = count-few list (g .few)
 
-    sequence : getD w 7 0 ≡ s .dispatcher .sequence
-    sequence = a .numbers 7 (s .dispatcher .sequence) refl
+    sequence : getD w at.sequence 0 ≡ s .dispatcher .sequence
+    sequence = a .numbers at.sequence (s .dispatcher .sequence) refl
 
     goes : (b : Bool) → isMet (s .dispatcher) (pairs list) all ≡ b
         → Plainly (cond b (words.granted w (s .dispatcher .current) list (length (pairs list)) (bit all)) (words.decidedList w (s .dispatcher .current) list (length (pairs list)) (bit all) timedly deadline irql))
@@ -75,10 +76,10 @@ module _ (w : List ℕ) (s : State) (a : Agree w s) (v : Valid s) (list : List �
         (sym (effect-is ∙ ap (λ (b : Bool). cond b (granted s (pairs list) all) (cond (reached ends (s .now)) (timedOut s) (blocks s (pairs list) all ends))) q))
         (agree-granted w s a v here list (g .few) all q))
     goes false q =
-        agree-decided w s a v here (recorded list (length (pairs list)) (bit all) (bit timedly) deadline (getD w 7 0)) (pairs list) all ends timedly
-        (recorded-stored (s .dispatcher) list g all timedly deadline ends (length (pairs list)) (getD w 7 0) refl sequence is-timed is-deadline)
-        (recorded-form (s .dispatcher) list g all timedly deadline ends (length (pairs list)) (getD w 7 0) refl sequence is-timed is-deadline)
-        (recorded-fits (s .dispatcher) list g all timedly deadline ends (length (pairs list)) (getD w 7 0) refl sequence is-timed is-deadline)
+        agree-decided w s a v here (recorded list (length (pairs list)) (bit all) (bit timedly) deadline (getD w at.sequence 0)) (pairs list) all ends timedly
+        (recorded-stored (s .dispatcher) list g all timedly deadline ends (length (pairs list)) (getD w at.sequence 0) refl sequence is-timed is-deadline)
+        (recorded-form (s .dispatcher) list g all timedly deadline ends (length (pairs list)) (getD w at.sequence 0) refl sequence is-timed is-deadline)
+        (recorded-fits (s .dispatcher) list g all timedly deadline ends (length (pairs list)) (getD w at.sequence 0) refl sequence is-timed is-deadline)
         is-reached (call.Wait list all ends irql) irql
         (re ∙ ap (λ (b : Bool). cond b 0 (cond (reached ends (s .now)) 0 (cond (ltb 1 irql) 9 (sequenceRefusal s)))) q)
         (effect-is ∙ ap (λ (b : Bool). cond b (granted s (pairs list) all) (cond (reached ends (s .now)) (timedOut s) (blocks s (pairs list) all ends))) q)
@@ -122,7 +123,7 @@ module _ (w : List ℕ) (s : State) (a : Agree w s) (v : Valid s) (list : List �
       subst (λ (k : ℕ). Plainly (unless
       (cond (eqb k 0) 3 (cond (eqb (listRefusal list) 0) (cond (unknownIn (pairCount list) w list 0 0) 2 (cond (ownedIn (pairCount list) w k list 0 0) 8 0)) (listRefusal list))) w
       (cond (metIn w list 0 (pairCount list) (bit all)) (words.granted w k list (pairCount list) (bit all)) (words.decidedList w k list (pairCount list) (bit all) timedly deadline irql)))
-      (step (call.Wait list all ends irql) s)) (sym (a .numbers 6 (s .dispatcher .current) refl))
+      (step (call.Wait list all ends irql) s)) (sym (a .numbers at.current (s .dispatcher .current) refl))
       (subst (λ (r : ℕ). Plainly (unless
       (cond (eqb c 0) 3 (cond (eqb r 0) (cond (unknownIn (pairCount list) w list 0 0) 2 (cond (ownedIn (pairCount list) w c list 0 0) 8 0)) r)) w answered)
       (step (call.Wait list all ends irql) s)) (sym (list-refusal list))
@@ -147,4 +148,4 @@ module _ (w : List ℕ) (s : State) (a : Agree w s) (v : Valid s) (list : List �
 
   pub agree-wait-until : Plainly (words.waited w list all true deadline irql) (step (call.Wait list all (some deadline) irql) s)
   unfolding words.reached
-  agree-wait-until = agree-waited w s a v list all true deadline (some deadline) irql refl (λ t e. some-same deadline t e) (ap (leb deadline) (a .numbers 8 (s .now) refl))
+  agree-wait-until = agree-waited w s a v list all true deadline (some deadline) irql refl (λ t e. some-same deadline t e) (ap (leb deadline) (a .numbers at.now (s .now) refl))

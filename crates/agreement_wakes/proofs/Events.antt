@@ -7,6 +7,7 @@ use mathlib.Core.Path.{_≡_, refl, sym, ap, _∙_, subst}
 use native.Mathlib.Omega.{arith}
 use lib.ListN.{getD, set}
 use lib.Dec.{eqb}
+use Rattle.words.specs.Layout as at
 use Rattle.objects.specs.Objects.{placeOf}
 use Rattle.wakes.specs.Wake.{awake}
 use Rattle.answers.specs.Outcome as code
@@ -70,11 +71,11 @@ module _ (w : List ℕ) (s : State) (a : Agree w s) (key : ℕ) where
     was : signaledAt w (placeOf w 1 key) ≡ v .signaled
     unfolding signaledAt
     was =
-        ap (λ (p : ℕ). not (eqb (getD w (p + 3) 0) 0)) (object-place w s held active a key (event v) e)
+        ap (λ (p : ℕ). not (eqb (getD w (p + at.signaled) 0) 0)) (object-place w s held active a key (event v) e)
         ∙ ap (λ (n : ℕ). not (eqb n 0)) (object-row w s held active a key (event v) e 3 (flag (v .signaled)) refl) ∙ flag-read (v .signaled)
 
-    signaled : (b : Bool) → Agreeing (set w (placeOf w 1 key + 3) (flag b)) (withTable s (putObject (signaledAs b v) (s .dispatcher .objects))) held active
-    signaled b = subst (λ (k : ℕ). Agreeing (set w (placeOf w 1 k + 3) (flag b)) (withTable s (putObject (signaledAs b v) l)) held active) key-is (sim-signal w s held active a v b own)
+    signaled : (b : Bool) → Agreeing (set w (placeOf w 1 key + at.signaled) (flag b)) (withTable s (putObject (signaledAs b v) (s .dispatcher .objects))) held active
+    signaled b = subst (λ (k : ℕ). Agreeing (set w (placeOf w 1 k + at.signaled) (flag b)) (withTable s (putObject (signaledAs b v) l)) held active) key-is (sim-signal w s held active a v b own)
 
     kept : (b : Bool) → Held (s .dispatcher .objects) (putObject (signaledAs b v) (s .dispatcher .objects))
     kept b = held-put (signaledAs b v) (event v) (λ c k. refl) l (a .shape .rising) own
@@ -90,7 +91,7 @@ module _ (w : List ℕ) (s : State) (a : Agree w s) (key : ℕ) where
 
       refused : (o : Option Object) → objectAt (s .dispatcher .objects) key ≡ o → asEvent o ≡ none → Plainly (wasSet w key) (step (call.SetEvent key) s)
       refused o e n =
-          subst (λ (p : ℕ). Set (cond (eqb p 0) (outcome (answer.Refused 2) w) (outcome (answer.Flag (signaledAt w p)) (awake (set w (p + 3) 1))))) (sym (absent o e n))
+          subst (λ (p : ℕ). Set (cond (eqb p 0) (outcome (answer.Refused 2) w) (outcome (answer.Flag (signaledAt w p)) (awake (set w (p + at.signaled) 1))))) (sym (absent o e n))
           (plainly-refused w s a (call.SetEvent key) 2 (ap (λ (x : Option Event). cond (present x) 0 2) (ap asEvent e ∙ n)) (λ z. omega arith))
 
       go : (o : Option Object) → objectAt (s .dispatcher .objects) key ≡ o → Plainly (wasSet w key) (step (call.SetEvent key) s)
@@ -98,14 +99,14 @@ module _ (w : List ℕ) (s : State) (a : Agree w s) (key : ℕ) where
       go (some (mutex m)) e = refused (some (mutex m)) e refl
       go (some (timer t)) e = refused (some (timer t)) e refl
       go (some (event v)) e =
-          subst (λ (b : Bool). Set (cond b (outcome (answer.Refused 2) w) (outcome (answer.Flag (signaledAt w (placeOf w 1 key))) (awake (set w (placeOf w 1 key + 3) 1))))) (sym (there v e))
-          (subst (λ (b : Bool). Set (outcome (answer.Flag b) (awake (set w (placeOf w 1 key + 3) 1)))) (sym (was v e))
-          (plainly-accepted s (call.SetEvent key) (outcome (answer.Flag (v .signaled)) (awake (set w (placeOf w 1 key + 3) 1))) (ap (λ (x : Option Event). cond (present x) 0 2) (ap asEvent e))
-          (subst (λ (x : Option Event). Plainly (outcome (answer.Flag (v .signaled)) (awake (set w (placeOf w 1 key + 3) 1)))
+          subst (λ (b : Bool). Set (cond b (outcome (answer.Refused 2) w) (outcome (answer.Flag (signaledAt w (placeOf w 1 key))) (awake (set w (placeOf w 1 key + at.signaled) 1))))) (sym (there v e))
+          (subst (λ (b : Bool). Set (outcome (answer.Flag b) (awake (set w (placeOf w 1 key + at.signaled) 1)))) (sym (was v e))
+          (plainly-accepted s (call.SetEvent key) (outcome (answer.Flag (v .signaled)) (awake (set w (placeOf w 1 key + at.signaled) 1))) (ap (λ (x : Option Event). cond (present x) 0 2) (ap asEvent e))
+          (subst (λ (x : Option Event). Plainly (outcome (answer.Flag (v .signaled)) (awake (set w (placeOf w 1 key + at.signaled) 1)))
           (given x (gives Done s) (λ (z : Event). gives (Flag (z .signaled)) (withDispatcher s (wake (withObjects (s .dispatcher) (putObject (signaledAs true z) l))))))) (sym (ap asEvent e))
           (record {
             answers = refl;
-            agree = agree-awake (set w (placeOf w 1 key + 3) 1) s (withObjects (s .dispatcher) (putObject (signaledAs true v) l)) (signaled v e true) (kept v e true) (valid .sound .standing);
+            agree = agree-awake (set w (placeOf w 1 key + at.signaled) 1) s (withObjects (s .dispatcher) (putObject (signaledAs true v) l)) (signaled v e true) (kept v e true) (valid .sound .standing);
           }))))
 
   reset-agrees : Plainly (wasReset w key) (step (call.ResetEvent key) s)
@@ -117,7 +118,7 @@ module _ (w : List ℕ) (s : State) (a : Agree w s) (key : ℕ) where
 
       refused : (o : Option Object) → objectAt (s .dispatcher .objects) key ≡ o → asEvent o ≡ none → Plainly (wasReset w key) (step (call.ResetEvent key) s)
       refused o e n =
-          subst (λ (p : ℕ). Reset (cond (eqb p 0) (outcome (answer.Refused 2) w) (outcome (answer.Flag (signaledAt w p)) (set w (p + 3) 0)))) (sym (absent o e n))
+          subst (λ (p : ℕ). Reset (cond (eqb p 0) (outcome (answer.Refused 2) w) (outcome (answer.Flag (signaledAt w p)) (set w (p + at.signaled) 0)))) (sym (absent o e n))
           (plainly-refused w s a (call.ResetEvent key) 2 (ap (λ (x : Option Event). cond (present x) 0 2) (ap asEvent e ∙ n)) (λ z. omega arith))
 
       go : (o : Option Object) → objectAt (s .dispatcher .objects) key ≡ o → Plainly (wasReset w key) (step (call.ResetEvent key) s)
@@ -125,12 +126,12 @@ module _ (w : List ℕ) (s : State) (a : Agree w s) (key : ℕ) where
       go (some (mutex m)) e = refused (some (mutex m)) e refl
       go (some (timer t)) e = refused (some (timer t)) e refl
       go (some (event v)) e =
-          subst (λ (b : Bool). Reset (cond b (outcome (answer.Refused 2) w) (outcome (answer.Flag (signaledAt w (placeOf w 1 key))) (set w (placeOf w 1 key + 3) 0)))) (sym (there v e))
-          (subst (λ (b : Bool). Reset (outcome (answer.Flag b) (set w (placeOf w 1 key + 3) 0))) (sym (was v e))
-          (plainly-accepted s (call.ResetEvent key) (outcome (answer.Flag (v .signaled)) (set w (placeOf w 1 key + 3) 0)) (ap (λ (x : Option Event). cond (present x) 0 2) (ap asEvent e))
-          (subst (λ (x : Option Event). Plainly (outcome (answer.Flag (v .signaled)) (set w (placeOf w 1 key + 3) 0))
+          subst (λ (b : Bool). Reset (cond b (outcome (answer.Refused 2) w) (outcome (answer.Flag (signaledAt w (placeOf w 1 key))) (set w (placeOf w 1 key + at.signaled) 0)))) (sym (there v e))
+          (subst (λ (b : Bool). Reset (outcome (answer.Flag b) (set w (placeOf w 1 key + at.signaled) 0))) (sym (was v e))
+          (plainly-accepted s (call.ResetEvent key) (outcome (answer.Flag (v .signaled)) (set w (placeOf w 1 key + at.signaled) 0)) (ap (λ (x : Option Event). cond (present x) 0 2) (ap asEvent e))
+          (subst (λ (x : Option Event). Plainly (outcome (answer.Flag (v .signaled)) (set w (placeOf w 1 key + at.signaled) 0))
           (given x (gives Done s) (λ (z : Event). gives (Flag (z .signaled)) (withTable s (putObject (signaledAs false z) l))))) (sym (ap asEvent e))
-          (record { answers = refl; agree = agree-held (set w (placeOf w 1 key + 3) 0) s (withTable s (putObject (signaledAs false v) l)) (signaled v e false) (kept v e false) }))))
+          (record { answers = refl; agree = agree-held (set w (placeOf w 1 key + at.signaled) 0) s (withTable s (putObject (signaledAs false v) l)) (signaled v e false) (kept v e false) }))))
 
 -- ---- the calls
 

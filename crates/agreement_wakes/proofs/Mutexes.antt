@@ -7,6 +7,7 @@ use mathlib.Core.Path.{_≡_, refl, sym, ap, _∙_, subst}
 use native.Mathlib.Omega.{arith}
 use lib.ListN.{getD, set}
 use lib.Dec.{eqb}
+use Rattle.words.specs.Layout as at
 use Rattle.objects.specs.Objects.{placeOf}
 use Rattle.wakes.specs.Wake.{awake}
 use Rattle.answers.specs.Outcome.{outcome}
@@ -53,7 +54,7 @@ module _ (w : List ℕ) (s : State) (a : Agree w s) (key : ℕ) where
   known-is = go (objectAt l key) refl
     where
       test : ℕ → ℕ
-      test p = cond (eqb p 0) 2 (cond (eqb (cond (eqb p 0) 0 (getD w (p + 4) 0)) c) 0 10)
+      test p = cond (eqb p 0) 2 (cond (eqb (cond (eqb p 0) 0 (getD w (p + at.owner) 0)) c) 0 10)
 
       absent : (o : Option Object) → objectAt (s .dispatcher .objects) key ≡ o → ofKind 0 o ≡ none → asMutex o ≡ none
           → test (placeOf w 0 key) ≡ given (mutexAt (s .dispatcher .objects) key) 2 (λ (m : Mutex). cond (eqb (m .owner) (s .dispatcher .current)) 0 10)
@@ -68,7 +69,7 @@ module _ (w : List ℕ) (s : State) (a : Agree w s) (key : ℕ) where
       go (some (timer t)) e = absent (some (timer t)) e refl refl
       go (some (mutex m)) e =
           ap test (object-place w s held active a key (mutex m) e)
-          ∙ ap (λ (b : Bool). cond b 2 (cond (eqb (cond b 0 (getD w (p + 4) 0)) c) 0 10)) (place-there w s held active a key)
+          ∙ ap (λ (b : Bool). cond b 2 (cond (eqb (cond b 0 (getD w (p + at.owner) 0)) c) 0 10)) (place-there w s held active a key)
           ∙ ap (λ (n : ℕ). cond (eqb n c) 0 10) (object-row w s held active a key (mutex m) e 4 (m .owner) refl)
           ∙ sym (ap (λ (x : Option Mutex). given x 2 (λ (m : Mutex). cond (eqb (m .owner) c) 0 10)) (ap asMutex e))
         where
@@ -78,17 +79,17 @@ module _ (w : List ℕ) (s : State) (a : Agree w s) (key : ℕ) where
   refusal-is : words.releaseRefusal w key ≡ releaseRefusal s key
   unfolding words.releaseRefusal releaseRefusal
   refusal-is =
-      ap (λ (n : ℕ). cond (eqb n 0) 3 (cond (eqb (placeOf w 0 key) 0) 2 (cond (eqb (words.ownerOf w key) n) 0 10))) (a .numbers 6 c refl)
+      ap (λ (n : ℕ). cond (eqb n 0) 3 (cond (eqb (placeOf w 0 key) 0) 2 (cond (eqb (words.ownerOf w key) n) 0 10))) (a .numbers at.current c refl)
       ∙ ap (λ (n : ℕ). cond (eqb c 0) 3 n) known-is
 
   -- ---- the release
 
   release-agrees : Valid s → Plainly (words.released w key) (step (call.ReleaseMutex key) s)
   unfolding words.released words.freed refusal releaseRefusal effect mutexReleased
-  release-agrees valid = plainly-unless w s a (call.ReleaseMutex key) (words.releaseRefusal w key) (outcome answer.Done (awake (set w (placeOf w 0 key + 4) 0))) refusal-is (λ q. go (mutexAt l key) refl q)
+  release-agrees valid = plainly-unless w s a (call.ReleaseMutex key) (words.releaseRefusal w key) (outcome answer.Done (awake (set w (placeOf w 0 key + at.owner) 0))) refusal-is (λ q. go (mutexAt l key) refl q)
     where
       go : (o : Option Mutex) → mutexAt (s .dispatcher .objects) key ≡ o → releaseRefusal s key ≡ 0
-          → Plainly (outcome answer.Done (awake (set w (placeOf w 0 key + 4) 0))) (gives Done (mutexReleased s key))
+          → Plainly (outcome answer.Done (awake (set w (placeOf w 0 key + at.owner) 0))) (gives Done (mutexReleased s key))
       go none e q = absurd (never (eqb c 0) (sym (ap (λ (x : Option Mutex). cond (eqb c 0) 3 (given x 2 (λ (m : Mutex). cond (eqb (m .owner) c) 0 10))) e) ∙ q))
         where
           never : (b : Bool) → _≡_ {A = ℕ} (cond b 3 2) 0 → ⊥
@@ -98,12 +99,12 @@ module _ (w : List ℕ) (s : State) (a : Agree w s) (key : ℕ) where
           let f = mutex-found (objectAt l key) m e in
           let k : m .key ≡ key = found keyOf l key (mutex m) f .1 in
           let own : objectAt l (m .key) ≡ some (mutex m) = ap (objectAt l) k ∙ f in
-          subst (λ (x : Option Mutex). Plainly (outcome answer.Done (awake (set w (placeOf w 0 key + 4) 0)))
+          subst (λ (x : Option Mutex). Plainly (outcome answer.Done (awake (set w (placeOf w 0 key + at.owner) 0)))
           (gives Done (given x s (λ (z : Mutex). withDispatcher s (wake (withObjects (s .dispatcher) (putObject (ownedBy 0 z) l))))))) (sym e)
           (record {
             answers = refl;
-            agree = agree-awake (set w (placeOf w 0 key + 4) 0) s (withObjects (s .dispatcher) (putObject (ownedBy 0 m) l))
-                (subst (λ (i : ℕ). Agreeing (set w (placeOf w 0 i + 4) 0) (withDispatcher s (withObjects (s .dispatcher) (putObject (ownedBy 0 m) l))) held active) k (sim-owner w s held active a m 0 own))
+            agree = agree-awake (set w (placeOf w 0 key + at.owner) 0) s (withObjects (s .dispatcher) (putObject (ownedBy 0 m) l))
+                (subst (λ (i : ℕ). Agreeing (set w (placeOf w 0 i + at.owner) 0) (withDispatcher s (withObjects (s .dispatcher) (putObject (ownedBy 0 m) l))) held active) k (sim-owner w s held active a m 0 own))
                 (held-put (ownedBy 0 m) (mutex m) (λ b k. refl) l (a .shape .rising) own) (valid .sound .standing);
           })
 

@@ -38,7 +38,7 @@ module _ (w : List ℕ) (s : State) (holder : ℕ → ℕ) (active : ℕ) (a : A
 
   -- of a kind, with its record at a place
   abbrev takenAt : ℕ → ℕ → List ℕ
-  takenAt place kind = cond (eqb place 0) w (cond (eqb kind 0) (set w (place + 4) id) (cond (eqb (getD w (place + 2) 0) 0) (set w (place + 3) 0) w))
+  takenAt place kind = cond (eqb place 0) w (cond (eqb kind 0) (set w (place + at.owner) id) (cond (eqb (getD w (place + at.manual) 0) 0) (set w (place + at.signaled) 0) w))
 
   -- a record that stays as it is
   stays : (x : Object) → objectAt (s .dispatcher .objects) (keyOf x) ≡ some x → Agreeing w (withTable s (putObject x (s .dispatcher .objects))) holder active
@@ -49,34 +49,34 @@ module _ (w : List ℕ) (s : State) (holder : ℕ → ℕ) (active : ℕ) (a : A
 
   -- word 2: whether it is of the kind that stays signaled
   manual-is : (o : Object) (b : Bool) → objectAt (s .dispatcher .objects) (keyOf o) ≡ some o → getD (objectRow o) 2 none ≡ some (flag b)
-      → getD w (placeOf w (kindOf o) (keyOf o) + 2) 0 ≡ flag b
-  manual-is o b e q = ap (λ (p : ℕ). getD w (p + 2) 0) (object-place w s holder active a (keyOf o) o e) ∙ object-row w s holder active a (keyOf o) o e 2 (flag b) q
+      → getD w (placeOf w (kindOf o) (keyOf o) + at.manual) 0 ≡ flag b
+  manual-is o b e q = ap (λ (p : ℕ). getD w (p + at.manual) 0) (object-place w s holder active a (keyOf o) o e) ∙ object-row w s holder active a (keyOf o) o e 2 (flag b) q
 
   sim-taken-object : (o : Object) → objectAt (s .dispatcher .objects) (keyOf o) ≡ some o
       → Agreeing (takenAt (placeOf w (kindOf o) (keyOf o)) (kindOf o)) (withTable s (putObject (takenBy id o) (s .dispatcher .objects))) holder active
   sim-taken-object (mutex m) e =
-      subst (λ (b : Bool). Agreeing (cond b w (set w (placeOf w 0 (m .key) + 4) id)) (withTable s (putObject (takenBy id (mutex m)) l)) holder active)
+      subst (λ (b : Bool). Agreeing (cond b w (set w (placeOf w 0 (m .key) + at.owner) id)) (withTable s (putObject (takenBy id (mutex m)) l)) holder active)
       (sym (place-not (mutex m) e)) (sim-owner w s holder active a m id e)
   sim-taken-object (event v) e =
-      subst (λ (b : Bool). Agreeing (cond b w (cond (eqb (getD w (p + 2) 0) 0) (set w (p + 3) 0) w)) (withTable s (putObject (takenBy id (event v)) l)) holder active)
+      subst (λ (b : Bool). Agreeing (cond b w (cond (eqb (getD w (p + at.manual) 0) 0) (set w (p + at.signaled) 0) w)) (withTable s (putObject (takenBy id (event v)) l)) holder active)
       (sym (place-not (event v) e))
-      (subst (λ (k : ℕ). Agreeing (cond (eqb k 0) (set w (p + 3) 0) w) (withTable s (putObject (takenBy id (event v)) l)) holder active) (sym (manual-is (event v) (v .manual) e refl)) (go (v .manual)))
+      (subst (λ (k : ℕ). Agreeing (cond (eqb k 0) (set w (p + at.signaled) 0) w) (withTable s (putObject (takenBy id (event v)) l)) holder active) (sym (manual-is (event v) (v .manual) e refl)) (go (v .manual)))
     where
       p : ℕ
       p = placeOf w 1 (v .key)
 
-      go : (b : Bool) → Agreeing (cond (eqb (flag b) 0) (set w (p + 3) 0) w) (withTable s (putObject (signaledAs (cond b (v .signaled) false) v) l)) holder active
+      go : (b : Bool) → Agreeing (cond (eqb (flag b) 0) (set w (p + at.signaled) 0) w) (withTable s (putObject (signaledAs (cond b (v .signaled) false) v) l)) holder active
       go true = stays (event v) e
       go false = sim-signal w s holder active a v false e
   sim-taken-object (timer t) e =
-      subst (λ (b : Bool). Agreeing (cond b w (cond (eqb (getD w (p + 2) 0) 0) (set w (p + 3) 0) w)) (withTable s (putObject (takenBy id (timer t)) l)) holder active)
+      subst (λ (b : Bool). Agreeing (cond b w (cond (eqb (getD w (p + at.manual) 0) 0) (set w (p + at.signaled) 0) w)) (withTable s (putObject (takenBy id (timer t)) l)) holder active)
       (sym (place-not (timer t) e))
-      (subst (λ (k : ℕ). Agreeing (cond (eqb k 0) (set w (p + 3) 0) w) (withTable s (putObject (takenBy id (timer t)) l)) holder active) (sym (manual-is (timer t) (t .«manual_reset») e refl)) (go (t .«manual_reset»)))
+      (subst (λ (k : ℕ). Agreeing (cond (eqb k 0) (set w (p + at.signaled) 0) w) (withTable s (putObject (takenBy id (timer t)) l)) holder active) (sym (manual-is (timer t) (t .«manual_reset») e refl)) (go (t .«manual_reset»)))
     where
       p : ℕ
       p = placeOf w 2 (t .address)
 
-      go : (b : Bool) → Agreeing (cond (eqb (flag b) 0) (set w (p + 3) 0) w) (withTable s (putObject (timer (withSignal t (cond b (t .signaled) false))) l)) holder active
+      go : (b : Bool) → Agreeing (cond (eqb (flag b) 0) (set w (p + at.signaled) 0) w) (withTable s (putObject (timer (withSignal t (cond b (t .signaled) false))) l)) holder active
       go true = stays (timer t) e
       go false = sim-timer-signal w s holder active a t false e
 
@@ -118,7 +118,7 @@ pub places-row : (w : List ℕ) (s : State) (holder : ℕ → ℕ) (active : ℕ
     → statusOf (s .dispatcher) id ≡ waiting x → Row w (placesAt id) (placesRow (x .objects))
 unfolding placesAt
 places-row w s holder active a id one le x e =
-    subst (λ (p : ℕ). Row w p (placesRow (x .objects))) (let q : 128 + 160 * id ≡ at.threadAt id + 32 = omega (arith, thread-place id (omega (arith, threads-few w s holder active a))) in q)
+    subst (λ (p : ℕ). Row w p (placesRow (x .objects))) (let q : at.threadWord at.waitPlaces id ≡ at.threadAt id + at.waitPlaces = omega (arith, thread-place id (omega (arith, threads-few w s holder active a))) in q)
     (waits-for w s holder active a id one le x e .places)
 
 -- the places stand in the thread's record, which taking leaves as it is

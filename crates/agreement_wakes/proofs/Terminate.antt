@@ -8,6 +8,7 @@ use native.Mathlib.Omega.{arith}
 use borrow.Author.Tests.{eq-eqb, eqb-false}
 use lib.ListN.{getD, set, length}
 use lib.Dec.{eqb}
+use Rattle.words.specs.Layout as at
 use Rattle.objects.specs.Objects.{objectsBase}
 use Rattle.threads.specs.declared.Thread as stored
 use Rattle.threads.specs.Thread.{putThread}
@@ -58,8 +59,8 @@ module _ (w : List ℕ) (s : State) (a : Agree w s) where
       → words.ownerAt w (objectsFrom (s .limits)) i id ≡ any (λ (m : Mutex). eqb (m .owner) id) (mutexesOf (x ∷ []))
   unfolding words.ownerAt
   owner-at id i x e h =
-      ap (λ (p : ℕ). cond (eqb (getD w (p + 1) 0) 0) (eqb (getD w (p + 4) 0) id) false) (entry-place base i (omega (arith, a .shape .sizes .limits .threads)) (omega arith))
-      ∙ ap (λ (k : ℕ). cond (eqb k 0) (eqb (getD w (base + 32 * i + 4) 0) id) false) (object-kinds w s held active a i x e)
+      ap (λ (p : ℕ). cond (eqb (getD w (p + at.kind) 0) 0) (eqb (getD w (p + at.owner) 0) id) false) (entry-place base i (omega (arith, a .shape .sizes .limits .threads)) (omega arith))
+      ∙ ap (λ (k : ℕ). cond (eqb k 0) (eqb (getD w (base + 32 * i + at.owner) 0) id) false) (object-kinds w s held active a i x e)
       ∙ go x e
     where
       once : (b : Bool) → b ≡ cond b true false
@@ -67,7 +68,7 @@ module _ (w : List ℕ) (s : State) (a : Agree w s) where
       once false = refl
 
       go : (x : Object) → nth (s .dispatcher .objects) i ≡ some x
-          → cond (eqb (kindOf x) 0) (eqb (getD w (base + 32 * i + 4) 0) id) false ≡ any (λ (m : Mutex). eqb (m .owner) id) (mutexesOf (x ∷ []))
+          → cond (eqb (kindOf x) 0) (eqb (getD w (base + 32 * i + at.owner) 0) id) false ≡ any (λ (m : Mutex). eqb (m .owner) id) (mutexesOf (x ∷ []))
       go (mutex m) e = ap (λ (n : ℕ). eqb n id) (a .objects i (mutex m) e 4 (m .owner) refl) ∙ once (eqb (m .owner) id)
       go (event v) e = refl
       go (timer t) e = refl
@@ -103,7 +104,7 @@ module _ (w : List ℕ) (s : State) (a : Agree w s) where
   refusal-is : words.terminateRefusal w ≡ terminateRefusal s
   unfolding words.terminateRefusal terminateRefusal
   refusal-is =
-      ap (λ (n : ℕ). cond (eqb n 0) 3 (cond (words.ownsMutex w n) 10 0)) (a .numbers 6 c refl)
+      ap (λ (n : ℕ). cond (eqb n 0) 3 (cond (words.ownsMutex w n) 10 0)) (a .numbers at.current c refl)
       ∙ ap (λ (b : Bool). cond (eqb c 0) 3 (cond b 10 0)) (owns-is c)
 
   -- ---- the thread exits
@@ -159,10 +160,10 @@ module _ (w : List ℕ) (s : State) (a : Agree w s) where
   pub agree-terminate : Valid s → (status : ℕ) → Plainly (words.terminated w status) (step (call.Terminate status) s)
   unfolding words.terminated refusal terminateRefusal effect
   agree-terminate v status =
-      plainly-unless w s a (call.Terminate status) (words.terminateRefusal w) (outcome answer.Done (awake (words.exitedWords w (getD w 6 0) status))) refusal-is
+      plainly-unless w s a (call.Terminate status) (words.terminateRefusal w) (outcome answer.Done (awake (words.exitedWords w (getD w at.current 0) status))) refusal-is
       (λ q. record {
         answers = refl;
-        agree = subst (λ (n : ℕ). Agree (awake (words.exitedWords w n status)) (withDispatcher s (wake (terminated (s .dispatcher) status)))) (sym (a .numbers 6 c refl))
+        agree = subst (λ (n : ℕ). Agree (awake (words.exitedWords w n status)) (withDispatcher s (wake (terminated (s .dispatcher) status)))) (sym (a .numbers at.current c refl))
             (agree-exited v (eqb-false c 0 (runs (eqb c 0) q)) status);
       })
     where

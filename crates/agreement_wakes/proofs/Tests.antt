@@ -88,9 +88,9 @@ module _ (w : List ℕ) (s : State) (holder : ℕ → ℕ) (active : ℕ) (a : A
   pub exited-is : (id : ℕ) → words.exited w id ≡ cond (isThread (s .dispatcher) id) (hasExited (statusOf (s .dispatcher) id)) false
   unfolding words.exited
   exited-is id =
-      ap (λ (b : Bool). cond b (eqb (getD w (at.threadAt id + 1) 0) 4) false) (known-is w s holder active a id) ∙ go (isThread (s .dispatcher) id) refl
+      ap (λ (b : Bool). cond b (eqb (getD w (at.threadAt id + at.state) 0) 4) false) (known-is w s holder active a id) ∙ go (isThread (s .dispatcher) id) refl
     where
-      go : (b : Bool) → isThread (s .dispatcher) id ≡ b → cond b (eqb (getD w (at.threadAt id + 1) 0) 4) false ≡ cond b (hasExited (statusOf (s .dispatcher) id)) false
+      go : (b : Bool) → isThread (s .dispatcher) id ≡ b → cond b (eqb (getD w (at.threadAt id + at.state) 0) 4) false ≡ cond b (hasExited (statusOf (s .dispatcher) id)) false
       go true e =
           let r = thread-is (s .dispatcher) id e in
           ap (λ (v : ℕ). eqb v 4) (thread-word-is w s holder active a id (r .0) (r .1) 1 (statusNumber (statusOf (s .dispatcher) id)) refl)
@@ -110,7 +110,7 @@ module _ (w : List ℕ) (s : State) (holder : ℕ → ℕ) (active : ℕ) (a : A
       ∙ ap (λ (b : Bool). cond (eqb (n .kind) 3) (cond (isThread (s .dispatcher) (n .key)) (hasExited (statusOf (s .dispatcher) (n .key))) false) b) (go (namedIn l n) refl)
     where
       freeAt : ℕ → ℕ → Bool
-      freeAt place kind = cond (eqb place 0) false (cond (eqb kind 0) (eqb (getD w (place + 4) 0) 0) (not (eqb (getD w (place + 3) 0) 0)))
+      freeAt place kind = cond (eqb place 0) false (cond (eqb kind 0) (eqb (getD w (place + at.owner) 0) 0) (not (eqb (getD w (place + at.signaled) 0) 0)))
 
       go : (o : Option Object) → namedIn l n ≡ o → freeAt (placeOf w (n .kind) (n .key)) (n .kind) ≡ given (namedIn l n) false isFree
       go none e = ap (λ (p : ℕ). freeAt p (n .kind)) (place-none n e) ∙ sym (ap (λ (x : Option Object). given x false isFree) e)
@@ -132,20 +132,20 @@ module _ (w : List ℕ) (s : State) (holder : ℕ → ℕ) (active : ℕ) (a : A
       id = s .dispatcher .current
 
       by : (o : Option Object) → objectAt l (n .key) ≡ o
-          → cond (eqb (placeOf w 0 (n .key)) 0) false (eqb (getD w (placeOf w 0 (n .key) + 4) 0) id) ≡ given (asMutex o) false (λ (m : Mutex). eqb (m .owner) id)
-      by none e = ap (λ (p : ℕ). cond (eqb p 0) false (eqb (getD w (p + 4) 0) id)) (place-none (record { kind = 0; key = n .key }) (ap (ofKind 0) e))
+          → cond (eqb (placeOf w 0 (n .key)) 0) false (eqb (getD w (placeOf w 0 (n .key) + at.owner) 0) id) ≡ given (asMutex o) false (λ (m : Mutex). eqb (m .owner) id)
+      by none e = ap (λ (p : ℕ). cond (eqb p 0) false (eqb (getD w (p + at.owner) 0) id)) (place-none (record { kind = 0; key = n .key }) (ap (ofKind 0) e))
       by (some (mutex m)) e =
           let h = place-some (record { kind = 0; key = n .key }) (mutex m) (ap (ofKind 0) e) in
-          ap (λ (p : ℕ). cond (eqb p 0) false (eqb (getD w (p + 4) 0) id)) (h .0)
+          ap (λ (p : ℕ). cond (eqb p 0) false (eqb (getD w (p + at.owner) 0) id)) (h .0)
           ∙ ap (λ (b : Bool). cond b false (eqb (getD w (placeIn (n .key) + 4) 0) id)) (place-there (n .key))
           ∙ ap (λ (v : ℕ). eqb v id) (object-row w s holder active a (n .key) (mutex m) e 4 (m .owner) refl)
-      by (some (event v)) e = ap (λ (p : ℕ). cond (eqb p 0) false (eqb (getD w (p + 4) 0) id)) (place-none (record { kind = 0; key = n .key }) (ap (ofKind 0) e))
-      by (some (timer t)) e = ap (λ (p : ℕ). cond (eqb p 0) false (eqb (getD w (p + 4) 0) id)) (place-none (record { kind = 0; key = n .key }) (ap (ofKind 0) e))
+      by (some (event v)) e = ap (λ (p : ℕ). cond (eqb p 0) false (eqb (getD w (p + at.owner) 0) id)) (place-none (record { kind = 0; key = n .key }) (ap (ofKind 0) e))
+      by (some (timer t)) e = ap (λ (p : ℕ). cond (eqb p 0) false (eqb (getD w (p + at.owner) 0) id)) (place-none (record { kind = 0; key = n .key }) (ap (ofKind 0) e))
 
       go : (b : Bool) → eqb (n .kind) 0 ≡ b
-          → cond b (cond (eqb (placeOf w (n .kind) (n .key)) 0) false (eqb (getD w (placeOf w (n .kind) (n .key) + 4) 0) id)) false
+          → cond b (cond (eqb (placeOf w (n .kind) (n .key)) 0) false (eqb (getD w (placeOf w (n .kind) (n .key) + at.owner) 0) id)) false
           ≡ cond b (given (mutexAt l (n .key)) false (λ (m : Mutex). eqb (m .owner) id)) false
       go true e =
-          ap (λ (k : ℕ). cond (eqb (placeOf w k (n .key)) 0) false (eqb (getD w (placeOf w k (n .key) + 4) 0) id)) (eqb-true (n .kind) 0 e)
+          ap (λ (k : ℕ). cond (eqb (placeOf w k (n .key)) 0) false (eqb (getD w (placeOf w k (n .key) + at.owner) 0) id)) (eqb-true (n .kind) 0 e)
           ∙ by (objectAt l (n .key)) refl
       go false e = refl

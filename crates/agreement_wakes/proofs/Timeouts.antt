@@ -36,13 +36,13 @@ module _ (w : List ℕ) (s : State) (holder : ℕ → ℕ) (active : ℕ) (a : A
       ap (λ (k : ℕ). test k) (thread-word-is w s holder active a id one le 1 (statusNumber (statusOf (s .dispatcher) id)) refl) ∙ go (statusOf (s .dispatcher) id) refl
     where
       test : ℕ → Bool
-      test k = cond (eqb k 3) (cond (eqb (getD w (at.threadAt id + 7) 0) 0) false (leb (getD w (at.threadAt id + 8) 0) time)) false
+      test k = cond (eqb k 3) (cond (eqb (getD w (at.threadAt id + at.hasDeadline) 0) 0) false (leb (getD w (at.threadAt id + at.deadline) 0) time)) false
 
       late : Status → Bool
       late y = reached (waitOf y .deadline) time
 
       by : (x : Wait) → statusOf (s .dispatcher) id ≡ waiting x → (o : Option ℕ) → x .deadline ≡ o
-          → cond (eqb (timed o) 0) false (leb (getD w (at.threadAt id + 8) 0) time) ≡ reached o time
+          → cond (eqb (timed o) 0) false (leb (getD w (at.threadAt id + at.deadline) 0) time) ≡ reached o time
       by x e none q = refl
       by x e (some t) q = ap (λ (v : ℕ). leb v time) (deadline-is w s holder active a id one le x e t q)
 
@@ -51,7 +51,7 @@ module _ (w : List ℕ) (s : State) (holder : ℕ → ℕ) (active : ℕ) (a : A
       go ready e = ap (λ (y : Status). test (statusNumber y)) e ∙ sym (ap (λ (y : Status). late y) e)
       go (waiting x) e =
           ap (λ (y : Status). test (statusNumber y)) e
-          ∙ ap (λ (v : ℕ). cond (eqb v 0) false (leb (getD w (at.threadAt id + 8) 0) time)) (timed-is w s holder active a id one le x e)
+          ∙ ap (λ (v : ℕ). cond (eqb v 0) false (leb (getD w (at.threadAt id + at.deadline) 0) time)) (timed-is w s holder active a id one le x e)
           ∙ by x e (x .deadline) refl
           ∙ sym (ap (λ (y : Status). late y) e)
       go (exited n) e = ap (λ (y : Status). test (statusNumber y)) e ∙ sym (ap (λ (y : Status). late y) e)

@@ -7,6 +7,7 @@ use mathlib.Core.Logic.{inr}
 use mathlib.Core.Path.{_≡_, refl, sym, ap, _∙_, subst}
 use native.Mathlib.Omega.{arith}
 use lib.ListN.{getD, set}
+use Rattle.words.specs.Layout as at
 use Rattle.images.specs.declared.Dpc.{Dpc}
 use Rattle.images.specs.declared.DpcOrigin.{DpcOrigin}
 use Rattle.images.specs.declared.DpcPhase.{DpcPhase}
@@ -51,7 +52,7 @@ module _ (w : List ℕ) (s : State) (holder : ℕ → ℕ) (active : ℕ) (a : A
   unfolding duplicated
   sim-duplicated h =
       subst (λ (v : List ℕ). Agreeing v (withDpcs s (duplicated (s .dpcs))) holder active)
-      (sym (raised-is w 14 (s .dpcs .counters .duplicates) (a .numbers 14 (s .dpcs .counters .duplicates) refl) h))
+      (sym (raised-is w 14 (s .dpcs .counters .duplicates) (a .numbers at.duplicates (s .dpcs .counters .duplicates) refl) h))
       (sim-duplicate w s holder active a (omega arith))
 
   module _ (k : ℕ) (d : Dpc) (e : dpcAt (s .dpcs .table) k ≡ some d) where
@@ -77,8 +78,8 @@ module _ (w : List ℕ) (s : State) (holder : ℕ → ℕ) (active : ℕ) (a : A
         from : ℕ → ℕ → ℕ → Chain → List ℕ
         from q p m c = set (pushed (words.originPut (words.workPut w p q first second) p (storedOrigin o)) c m) 13 q
 
-        number : (getD w 13 0 + 1) % 2 ^ 64 ≡ s .dpcs .counters .accepted + 1
-        number = ap (λ (v : ℕ). (v + 1) % 2 ^ 64) (a .numbers 13 (s .dpcs .counters .accepted) refl) ∙ one-more (s .dpcs .counters .accepted) (omega (arith, h))
+        number : (getD w at.accepted 0 + 1) % 2 ^ 64 ≡ s .dpcs .counters .accepted + 1
+        number = ap (λ (v : ℕ). (v + 1) % 2 ^ 64) (a .numbers at.accepted (s .dpcs .counters .accepted) refl) ∙ one-more (s .dpcs .counters .accepted) (omega (arith, h))
 
     pub sim-accepted-work : (n first second : ℕ) (o : DpcOrigin) → n ≡ numberOf w k → (Mem k (s .dpcs .queue) → ⊥) → s .dpcs .counters .accepted ≤ 65536
         → Agreeing (words.accepted w n first second (storedOrigin o)) (withDpcs s (accepted (s .dpcs) k first second o)) holder active
@@ -113,7 +114,7 @@ module _ (w : List ℕ) (s : State) (holder : ℕ → ℕ) (active : ℕ) (a : A
 
     withdrawn-words : (n : ℕ) → n ≡ numberOf w k
         → words.withdrawn w n
-        ≡ words.raised (set (removed w (queueFrom (dpcsFrom (s .limits))) (numberIn (s .dpcs .table) k)) (dpcsFrom (s .limits) + 32 * below addressOf k (s .dpcs .table) + 1) 0) 15
+        ≡ words.raised (set (removed w (queueFrom (dpcsFrom (s .limits))) (numberIn (s .dpcs .table) k)) (dpcsFrom (s .limits) + 32 * below addressOf k (s .dpcs .table) + at.phase) 0) 15
     unfolding words.withdrawn
     withdrawn-words n z =
         ap (λ (p : ℕ). from p n (queueChain w)) (ap (placeAt w) z ∙ place-numbered w s holder active a k d e)
@@ -121,21 +122,21 @@ module _ (w : List ℕ) (s : State) (holder : ℕ → ℕ) (active : ℕ) (a : A
         ∙ ap (from (dpcsFrom (s .limits) + 32 * below addressOf k (s .dpcs .table)) (numberIn (s .dpcs .table) k)) (queue-chain-is w s holder active a)
       where
         from : ℕ → ℕ → Chain → List ℕ
-        from p m c = words.raised (set (removed w c m) (p + 1) 0) 15
+        from p m c = words.raised (set (removed w c m) (p + at.phase) 0) 15
 
     pub sim-withdrawn : (n : ℕ) → n ≡ numberOf w k → Mem k (s .dpcs .queue) → s .dpcs .counters .removed < most
         → Agreeing (words.withdrawn w n) (withDpcs s (withdrawn (s .dpcs) k)) holder active
     unfolding withdrawn
     sim-withdrawn n z m h =
         subst (λ (v : List ℕ). Agreeing v (withDpcs s (withdrawn (s .dpcs) k)) holder active)
-        (sym (withdrawn-words n z ∙ raised-is w₂ 15 (s .dpcs .counters .removed) (b₂ .numbers 15 (s .dpcs .counters .removed) refl) h))
+        (sym (withdrawn-words n z ∙ raised-is w₂ 15 (s .dpcs .counters .removed) (b₂ .numbers at.removed (s .dpcs .counters .removed) refl) h))
         (sim-removed w₂ s₂ holder active b₂)
       where
         w₁ : List ℕ
         w₁ = removed w (queueFrom (dpcsFrom (s .limits))) (numberIn (s .dpcs .table) k)
 
         w₂ : List ℕ
-        w₂ = set w₁ (dpcsFrom (s .limits) + 32 * below addressOf k (s .dpcs .table) + 1) 0
+        w₂ = set w₁ (dpcsFrom (s .limits) + 32 * below addressOf k (s .dpcs .table) + at.phase) 0
 
         s₁ : State
         s₁ = withRecords s (s .dpcs .table) (without k (s .dpcs .queue))
@@ -147,4 +148,4 @@ module _ (w : List ℕ) (s : State) (holder : ℕ → ℕ) (active : ℕ) (a : A
         b₁ = sim-dequeue w s holder active a k m
 
         b₂ : Agreeing w₂ s₂ holder active
-        b₂ = subst (λ (p : ℕ). Agreeing (set w₁ (p + 1) 0) s₂ holder active) (dpc-place w₁ s₁ holder active b₁ k d e) (sim-phase w₁ s₁ holder active b₁ k d e Idle (inr refl))
+        b₂ = subst (λ (p : ℕ). Agreeing (set w₁ (p + at.phase) 0) s₂ holder active) (dpc-place w₁ s₁ holder active b₁ k d e) (sim-phase w₁ s₁ holder active b₁ k d e Idle (inr refl))

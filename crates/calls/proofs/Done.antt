@@ -5,6 +5,7 @@ use mathlib.Core.Bool.{true, false}
 use mathlib.Core.Path.{_≡_, refl}
 use lib.Dec.{eqb}
 use lib.ListN.{getD, set}
+use Rattle.words.specs.Layout as at
 use Rattle.objects.specs.Objects.{placeOf}
 use Rattle.events.specs.Events as events
 use Rattle.form.specs.Form.{inForm}
@@ -19,6 +20,6 @@ zeroed [] (suc i) = refl
 zeroed (x ∷ w) zero = refl
 zeroed (x ∷ w) (suc i) = zeroed w i
 
-pub reset-done : (w : List ℕ) (key : ℕ) → inForm w ≡ true → eqb (placeOf w 1 key) 0 ≡ false → getD (left w (call.ResetEvent key)) (placeOf w 1 key + 3) 0 ≡ 0
+pub reset-done : (w : List ℕ) (key : ℕ) → inForm w ≡ true → eqb (placeOf w 1 key) 0 ≡ false → getD (left w (call.ResetEvent key)) (placeOf w 1 key + at.signaled) 0 ≡ 0
 unfolding called guarded events.wasReset
-reset-done w key f known = simp (f, known) (zeroed w (placeOf w 1 key + 3))
+reset-done w key f known = simp (f, known) (zeroed w (placeOf w 1 key + at.signaled))

@@ -10,10 +10,12 @@ use Rattle.chains.specs.declared.Chain.{Chain}
 use Rattle.chains.specs.Chain.{pushed, removed}
 
 unfoldable pub readyChain : ℕ → Chain
-readyChain p = cond (leb p 31) (record { first = 32 + p; last = 64 + p; link = 98; stride = 160 }) (record { first = 32; last = 64; link = 98; stride = 160 })
+readyChain p =
+    cond (leb p 31) (record { first = at.readyFirst + p; last = at.readyLast + p; link = at.readyLink; stride = at.threadSize })
+    (record { first = at.readyFirst; last = at.readyLast; link = at.readyLink; stride = at.threadSize })
 
 unfoldable pub waitersChain : Chain
-waitersChain = record { first = 21; last = 22; link = 99; stride = 160 }
+waitersChain = record { first = at.waitersFirst; last = at.waitersLast; link = at.waitersLink; stride = at.threadSize }
 
 -- the bit of an empty queue set, and cleared
 unfoldable pub marked : List ℕ → ℕ → List ℕ

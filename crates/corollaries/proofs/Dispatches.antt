@@ -67,7 +67,7 @@ module _ (w : List ℕ) (p t o d : ℕ) (calls : List Call) (accepted : openRefu
         threads.next (log .dispatcher),
         m .answers ∙ ap (λ (x : Outcome). x .answer) q,
         right-next log (valid w p t o d calls accepted proper) e,
-        m .agree .numbers 6 _ refl ∙ ap (λ (x : Outcome). x .state .dispatcher .current) q,
+        m .agree .numbers at.current _ refl ∙ ap (λ (x : Outcome). x .state .dispatcher .current) q,
       )
 
   reads : (r : call.Read) → answered words (call.Reads r) ≡ step (call.Reads r) log .answer

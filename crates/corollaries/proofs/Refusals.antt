@@ -62,4 +62,4 @@ module _ (w : List ℕ) (p t o d : ℕ) (calls : List Call) (accepted : openRefu
   -- 27 is answered for an output or lent words that are too short, and for bad limits of an `open`; never for the words' form
   pub never-27 : (c : Call) → Fits c → Lent (length w) c → answered words c ≡ Refused 27 → Short (getD words at.threadLimit 0) c
   never-27 c fit lent e =
-      subst (λ (n : ℕ). Short n c) (sym (agree w p t o d calls accepted proper .numbers 0 _ refl)) (row-27 log c (refused-by c fit lent 27 e))
+      subst (λ (n : ℕ). Short n c) (sym (agree w p t o d calls accepted proper .numbers at.threadLimit _ refl)) (row-27 log c (refused-by c fit lent 27 e))

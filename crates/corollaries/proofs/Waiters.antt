@@ -132,4 +132,4 @@ module _ (w : List ℕ) (p t o d : ℕ) (calls : List Call) (accepted : openRefu
     -- with a deadline: it is ahead of the words' time
     pub deadline-ahead : (time : ℕ) → y .deadline ≡ some time → getD words at.now 0 < time
     deadline-ahead time q =
-        subst (λ (n : ℕ). n < time) (sym (agree w p t o d calls accepted proper .numbers 8 _ refl)) (history.deadline-ahead (length w) p t o d accepted calls i y time was q)
+        subst (λ (n : ℕ). n < time) (sym (agree w p t o d calls accepted proper .numbers at.now _ refl)) (history.deadline-ahead (length w) p t o d accepted calls i y time was q)

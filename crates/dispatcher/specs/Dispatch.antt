@@ -26,7 +26,7 @@ unfoldable pub sooner : Due → ℕ → ℕ → Due
 sooner d timed deadline = cond (eqb timed 0) d (cond (d .some) (cond (leb (d .at) deadline) d (dueAt deadline)) (dueAt deadline))
 
 unfoldable pub dueAfter : List ℕ → Due → ℕ → Due
-dueAfter w d id = sooner d (getD w (threadAt id + 7) 0) (getD w (threadAt id + 8) 0)
+dueAfter w d id = sooner d (getD w (threadAt id + at.hasDeadline) 0) (getD w (threadAt id + at.deadline) 0)
 
 -- of at most `k` waiting threads from `id` on
 unfoldable pub soonestIn : ℕ → List ℕ → Due → ℕ → Due
@@ -48,7 +48,7 @@ ran w p =
 -- ---- the waiting threads' numbers; state 3 is waiting
 
 unfoldable pub isWaiting : List ℕ → ℕ → Bool
-isWaiting w id = eqb (getD w (threadAt id + 1) 0) 3
+isWaiting w id = eqb (getD w (threadAt id + at.state) 0) 3
 
 unfoldable pub noted : List ℕ → List ℕ → ℕ → ℕ → List ℕ
 noted w out id k = cond (isWaiting w id) (set out k id) out

@@ -5,6 +5,7 @@ use Prim.Native.Nat.{ℕ, zero, suc, _+_}
 use mathlib.Core.List.{List}
 use lib.ListN.{getD}
 use lib.Dec.{eqb}
+use Rattle.words.specs.Layout as at
 use Rattle.words.specs.Layout.{entryAt}
 use Rattle.objects.specs.Objects.{objectsBase, objectCount}
 use Rattle.chains.specs.Chain.{firstOf}
@@ -15,15 +16,15 @@ use Rattle.dispatcher.specs.Dispatch.{sooner, soonest}
 
 -- unsignaled and in a waiter's list
 unfoldable pub isAwaited : List ℕ → ℕ → Bool
-isAwaited w place = cond (eqb (getD w (place + 3) 0) 0) (waitsOn w 2 (getD w (place + 0) 0)) false
+isAwaited w place = cond (eqb (getD w (place + at.signaled) 0) 0) (waitsOn w 2 (getD w (place + at.key) 0)) false
 
 -- document 01: it is inserted, and it either has a DPC or is unsignaled and in a waiter's list
 unfoldable pub timerCounts : List ℕ → ℕ → Bool
 timerCounts w place =
-    cond (eqb (getD w (place + 1) 0) 2) (cond (eqb (getD w (place + 5) 0) 0) false (cond (eqb (getD w (place + 8) 0) 0) (isAwaited w place) true)) false
+    cond (eqb (getD w (place + at.kind) 0) 2) (cond (eqb (getD w (place + at.inserted) 0) 0) false (cond (eqb (getD w (place + at.timerDpc) 0) 0) (isAwaited w place) true)) false
 
 unfoldable pub dueWith : List ℕ → Due → ℕ → Due
-dueWith w d place = cond (timerCounts w place) (sooner d 1 (getD w (place + 6) 0)) d
+dueWith w d place = cond (timerCounts w place) (sooner d 1 (getD w (place + at.due) 0)) d
 
 -- of the `m` objects from place `i` on
 unfoldable pub soonestTimerIn : ℕ → List ℕ → Due → ℕ → ℕ → Due

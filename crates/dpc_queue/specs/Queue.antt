@@ -13,21 +13,20 @@ use Rattle.dpc_queue.specs.declared.Origin.{Origin}
 unfoldable pub raised : List ℕ → ℕ → List ℕ
 raised w i = set w i ((getD w i 0 + 1) % 2 ^ 64)
 
--- word 14 is the origin (0 a caller, 1 a timer), 15 the timer's key, 16 its arm, 17 its initialization, 18 the deadline,
--- 19 the time at which it was seen, 20 whether it is periodic
+-- the origin is 0 for a caller and 1 for a timer
 unfoldable pub originPut : List ℕ → ℕ → Origin → List ℕ
 originPut w place o =
-    let timer = set (set w (place + 14) (o .timer)) (place + 15) (o .address) in
-    let arm = set (set timer (place + 16) (o .arm)) (place + 17) (o .initialization) in
-    set (set (set arm (place + 18) (o .deadline)) (place + 19) (o .observed)) (place + 20) (o .periodic)
+    let timer = set (set w (place + at.origin) (o .timer)) (place + at.originTimer) (o .address) in
+    let arm = set (set timer (place + at.originArm) (o .arm)) (place + at.originInitialization) (o .initialization) in
+    set (set (set arm (place + at.originDeadline) (o .deadline)) (place + at.originObserved) (o .observed)) (place + at.originPeriodic) (o .periodic)
 
--- word 1 is the phase, 1 for queued, 11 the work's sequence, 12 and 13 its arguments
+-- phase 1 is queued
 unfoldable pub workPut : List ℕ → ℕ → ℕ → ℕ → ℕ → List ℕ
 workPut w place sequence first second =
-    set (set (set (set w (place + 1) 1) (place + 11) sequence) (place + 12) first) (place + 13) second
+    set (set (set (set w (place + at.phase) 1) (place + at.workSequence) sequence) (place + at.workArgument) first) (place + at.workArgument2) second
 
 unfoldable pub queued : List ℕ → ℕ → Bool
-queued w n = eqb (getD w (placeAt w n + 1) 0) 1
+queued w n = eqb (getD w (placeAt w n + at.phase) 0) 1
 
 -- DPC `n` last in the queue, with new work: an acceptance, whose number is the work's sequence
 unfoldable pub accepted : List ℕ → ℕ → ℕ → ℕ → Origin → List ℕ
@@ -38,4 +37,4 @@ accepted w n first second o =
 
 -- DPC `n` out of the queue and idle: a removal
 unfoldable pub withdrawn : List ℕ → ℕ → List ℕ
-withdrawn w n = raised (set (removed w (queueChain w) n) (placeAt w n + 1) 0) at.removed
+withdrawn w n = raised (set (removed w (queueChain w) n) (placeAt w n + at.phase) 0) at.removed

@@ -71,4 +71,4 @@ queuedNumber w position = stepped position w (queueChain w) (firstOf w (queueCha
 unfoldable pub queuedDpcs : List ℕ → ℕ → Answer
 queuedDpcs w position =
     let n = queuedNumber w position in
-    cond (ltb 4095 position) answer.None (cond (eqb n 0) answer.None (answer.Count (getD w (placeAt w n + 0) 0)))
+    cond (ltb 4095 position) answer.None (cond (eqb n 0) answer.None (answer.Count (getD w (placeAt w n + at.address) 0)))

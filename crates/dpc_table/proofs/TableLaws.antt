@@ -7,6 +7,7 @@ use mathlib.Core.Path.{_≡_, refl}
 use lib.ListN.{getD}
 use lib.Dec.{eqb}
 use borrow.Author.Tests.{eq-eqb, ne-eqb}
+use Rattle.words.specs.Layout as at
 use Rattle.words.specs.Layout.{entryAt}
 use Rattle.chains.specs.declared.Chain.{Chain}
 use Rattle.chains.specs.Chain.{linkAt, nextOf}
@@ -28,7 +29,7 @@ raised-more (suc m) w c k i h = simp (less-one m)
 
 pub number-most : (w : List ℕ) (place last : ℕ) → numberTo w place last ≤ last + 1
 unfolding numberTo
-number-most w place last = go (eqb (getD w (place + 1) 0) 9)
+number-most w place last = go (eqb (getD w (place + at.phase) 0) 9)
   where
     go : (b : Bool) → cond b last (last + 1) ≤ last + 1
     go true = omega arith

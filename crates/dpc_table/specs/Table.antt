@@ -16,9 +16,9 @@ use Rattle.dpc_table.specs.declared.NewDpc.{NewDpc}
 
 -- ---- a record written whole
 
--- word 0 the address, 1 the phase, 2 the link, 3 the timer that has it
+-- idle, in no queue, and no timer's
 unfoldable pub putIdle : List ℕ → ℕ → ℕ → List ℕ
-putIdle w place address = set (set (set (set w place address) (place + 1) 0) (place + 2) 0) (place + 3) 0
+putIdle w place address = set (set (set (set w place address) (place + at.phase) 0) (place + at.nextQueued) 0) (place + at.namedBy) 0
 
 unfoldable pub putImage : List ℕ → ℕ → NewDpc → List ℕ
 putImage w place d =
@@ -28,13 +28,13 @@ putImage w place d =
     (set
     (set
     (set
-    (set w (place + 4) (d .architecture))
-    (place + 5) (d .backing))
-    (place + 6) (d .base))
-    (place + 7) (d .size))
-    (place + 8) (d .mapped))
-    (place + 9) (d .routine))
-    (place + 10) (d .context)
+    (set w (place + at.dpcArchitecture) (d .architecture))
+    (place + at.dpcBacking) (d .backing))
+    (place + at.dpcBase) (d .base))
+    (place + at.dpcSize) (d .size))
+    (place + at.dpcMapped) (d .mapped))
+    (place + at.routine) (d .routine))
+    (place + at.context) (d .context)
 
 unfoldable pub putDpc : List ℕ → ℕ → ℕ → NewDpc → List ℕ
 putDpc w place address d = putImage (putIdle w place address) place d
@@ -67,12 +67,12 @@ entered w address d = cond (eqb (dpcFound w address) 0) (inserted w address d) (
 
 -- ---- close_up: the DPCs of phase 9 taken out
 
--- word 21 the new number, one more than the last one given, where the DPC stays; and then the last one given
+-- the new number, one more than the last one given, where the DPC stays; and then the last one given
 unfoldable pub numberPut : List ℕ → ℕ → ℕ → List ℕ
-numberPut w place last = cond (eqb (getD w (place + 1) 0) 9) w (set w (place + 21) (last + 1))
+numberPut w place last = cond (eqb (getD w (place + at.phase) 0) 9) w (set w (place + at.newNumber) (last + 1))
 
 unfoldable pub numberTo : List ℕ → ℕ → ℕ → ℕ
-numberTo w place last = cond (eqb (getD w (place + 1) 0) 9) last (last + 1)
+numberTo w place last = cond (eqb (getD w (place + at.phase) 0) 9) last (last + 1)
 
 -- `m` DPCs from position `i` on
 unfoldable pub numberedIn : ℕ → List ℕ → ℕ → ℕ → ℕ → List ℕ
@@ -83,7 +83,7 @@ unfoldable pub numbered : List ℕ → List ℕ
 numbered w = numberedIn (dpcCount w) w (dpcsBase w) 0 0
 
 unfoldable pub newNumber : List ℕ → ℕ → ℕ
-newNumber w n = cond (eqb n 0) 0 (getD w (placeAt w n + 21) 0)
+newNumber w n = cond (eqb n 0) 0 (getD w (placeAt w n + at.newNumber) 0)
 
 unfoldable pub linkRenewed : List ℕ → Chain → ℕ → List ℕ
 linkRenewed w c before = set w (linkAt c before) (newNumber w (nextOf w c before))

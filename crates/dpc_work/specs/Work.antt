@@ -42,13 +42,13 @@ configured w first second = unless (configureRefusal w first second) w (outcome 
 -- ---- insert_queue_dpc: 18 an inserted timer has the DPC; 20 no policy; 2; 21 queued by a timer; 24 duplicates at their end;
 -- 19 running or returning; 14 after 65536 acceptances
 
--- of a queued DPC, whose record stands at the place: word 14 is the origin, 0 for a caller
+-- of a queued DPC, whose record stands at the place; the origin is 0 for a caller
 unfoldable pub duplicateRefusal : List ℕ → ℕ → ℕ
-duplicateRefusal w place = cond (eqb (getD w (place + 14) 0) 0) (cond (eqb (getD w at.duplicates 0) (2 ^ 64 - 1)) 24 0) 21
+duplicateRefusal w place = cond (eqb (getD w (place + at.origin) 0) 0) (cond (eqb (getD w at.duplicates 0) (2 ^ 64 - 1)) 24 0) 21
 
 unfoldable pub workRefusal : List ℕ → ℕ → ℕ
 workRefusal w n =
-    let phase = getD w (placeAt w n + 1) 0 in
+    let phase = getD w (placeAt w n + at.phase) 0 in
     cond (eqb phase 1) (duplicateRefusal w (placeAt w n)) (cond (eqb phase 0) (cond (leb 65536 (getD w at.accepted 0)) 14 0) 19)
 
 unfoldable pub insertRefusal : List ℕ → ℕ → ℕ
@@ -85,15 +85,14 @@ pub record Started : Type 0 where
 abbrev pub startOutcome : WorkAnswer → List ℕ → Started
 startOutcome a w = record { answer = a; words = w }
 
--- word 0 of a DPC's record is its address
 unfoldable pub startRefusal : List ℕ → ℕ → ℕ
 startRefusal w address =
     let n = firstOf w (queueChain w) in
-    cond (eqb (getD w at.active 0) 0) (cond (eqb n 0) 22 (cond (eqb (getD w (placeAt w n + 0) 0) address) 0 22)) 22
+    cond (eqb (getD w at.active 0) 0) (cond (eqb n 0) 22 (cond (eqb (getD w (placeAt w n + at.address) 0) address) 0 22)) 22
 
 -- the first of the queue, `n`, taken out, running and active
 unfoldable pub headStarted : List ℕ → ℕ → ℕ → List ℕ
-headStarted w n address = set (raised (set (unlinked w (queueChain w) 0 n) (placeAt w n + 1) 2) at.started) at.active address
+headStarted w n address = set (raised (set (unlinked w (queueChain w) 0 n) (placeAt w n + at.phase) 2) at.started) at.active address
 
 unfoldable pub workStarted : List ℕ → ℕ → Started
 workStarted w address =
@@ -104,18 +103,17 @@ workStarted w address =
 
 -- ---- returned_dpc, restored_dpc: 2; 22 the phase or the work's sequence differs
 
--- word 11 is the work's sequence
 unfoldable pub phaseRefusal : List ℕ → ℕ → ℕ → ℕ → ℕ
 phaseRefusal w address phase sequence =
     let place = placeAt w (numberOf w address) in
     cond (eqb (numberOf w address) 0) 2
-    (cond (eqb (getD w (place + 1) 0) phase) (cond (eqb (getD w (place + 11) 0) sequence) 0 22) 22)
+    (cond (eqb (getD w (place + at.phase) 0) phase) (cond (eqb (getD w (place + at.workSequence) 0) sequence) 0 22) 22)
 
 abbrev pub returnedRefusal : List ℕ → ℕ → ℕ → ℕ
 returnedRefusal w address sequence = phaseRefusal w address 2 sequence
 
 unfoldable pub returning : List ℕ → ℕ → List ℕ
-returning w n = raised (set w (placeAt w n + 1) 3) at.returned
+returning w n = raised (set w (placeAt w n + at.phase) 3) at.returned
 
 unfoldable pub workReturned : List ℕ → ℕ → ℕ → Outcome
 workReturned w address sequence =
@@ -125,7 +123,7 @@ abbrev pub restoredRefusal : List ℕ → ℕ → ℕ → ℕ
 restoredRefusal w address sequence = phaseRefusal w address 3 sequence
 
 unfoldable pub idle : List ℕ → ℕ → List ℕ
-idle w n = set (raised (set w (placeAt w n + 1) 0) at.restored) at.active 0
+idle w n = set (raised (set w (placeAt w n + at.phase) 0) at.restored) at.active 0
 
 unfoldable pub workRestored : List ℕ → ℕ → ℕ → Outcome
 workRestored w address sequence =

@@ -13,24 +13,24 @@ use Rattle.words.proofs.LayoutLaws.{entry-small}
 use Rattle.objects.specs.Objects.{objectsBase, dpcsBase}
 use Rattle.dpcs.specs.Record.{dpcCount}
 
-objects-least : (t : ℕ) → 256 ≤ objectsAt t
+objects-least : (t : ℕ) → at.headerSize ≤ objectsAt t
 unfolding objectsAt
-objects-least t = go (leb t 256)
+objects-least t = go (leb t at.mostThreads)
   where
-    go : (b : Bool) → 256 ≤ cond b (256 + 160 * t) 256
+    go : (b : Bool) → at.headerSize ≤ cond b (at.headerSize + at.threadSize * t) at.headerSize
     go true = omega arith
     go false = omega arith
 
-entry-least : (base i : ℕ) → 96 ≤ base → 96 ≤ entryAt base i
+entry-least : (base i : ℕ) → at.unused ≤ base → at.unused ≤ entryAt base i
 unfolding entryAt
 entry-least base i h = go (leb base 1000000) (leb i 8192)
   where
-    go : (a b : Bool) → 96 ≤ cond a (cond b (base + 32 * i) 96) 96
+    go : (a b : Bool) → at.unused ≤ cond a (cond b (base + 32 * i) at.unused) at.unused
     go true true = omega (arith, h)
     go true false = omega arith
     go false b = omega arith
 
-pub base-least : (w : List ℕ) → 96 ≤ dpcsBase w
+pub base-least : (w : List ℕ) → at.unused ≤ dpcsBase w
 unfolding dpcsBase objectsBase
 base-least w =
     let h = objects-least (getD w at.threadLimit 0) in

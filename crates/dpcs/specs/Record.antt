@@ -30,33 +30,33 @@ numberOf w address =
     cond (leb n i) 0 (cond (eqb (keyAt w (dpcsBase w) i) address) (i + 1) 0)
 
 unfoldable pub placeAt : List ℕ → ℕ → ℕ
-placeAt w n = cond (eqb n 0) 96 (cond (ltb 4096 n) 96 (entryAt (dpcsBase w) (n - 1)))
+placeAt w n = cond (eqb n 0) at.unused (cond (ltb 4096 n) at.unused (entryAt (dpcsBase w) (n - 1)))
 
--- the link is word 2 of a DPC's record
+-- the DPC queue, by numbers of DPCs
 unfoldable pub queueChain : List ℕ → Chain
-queueChain w = record { first = 23; last = 24; link = dpcsBase w - 30; stride = 32 }
+queueChain w = record { first = at.queueFirst; last = at.queueLast; link = dpcsBase w - at.queueLinkBefore; stride = at.recordSize }
 
 -- ---- what the words of a record say
 
 unfoldable pub timerOrigin : List ℕ → ℕ → DpcOrigin
-timerOrigin w place = origin.Timer (getD w (place + 15) 0) (getD w (place + 16) 0) (getD w (place + 17) 0) (getD w (place + 18) 0) (getD w (place + 19) 0) (not (eqb (getD w (place + 20) 0) 0))
+timerOrigin w place = origin.Timer (getD w (place + at.originTimer) 0) (getD w (place + at.originArm) 0) (getD w (place + at.originInitialization) 0) (getD w (place + at.originDeadline) 0) (getD w (place + at.originObserved) 0) (not (eqb (getD w (place + at.originPeriodic) 0) 0))
 
 unfoldable pub originAt : List ℕ → ℕ → DpcOrigin
-originAt w place = cond (eqb (getD w (place + 14) 0) 0) origin.Caller (timerOrigin w place)
+originAt w place = cond (eqb (getD w (place + at.origin) 0) 0) origin.Caller (timerOrigin w place)
 
 unfoldable pub workAt : List ℕ → ℕ → DpcWork
-workAt w place = record { sequence = getD w (place + 11) 0; first = getD w (place + 12) 0; second = getD w (place + 13) 0; origin = originAt w place }
+workAt w place = record { sequence = getD w (place + at.workSequence) 0; first = getD w (place + at.workArgument) 0; second = getD w (place + at.workArgument2) 0; origin = originAt w place }
 
 unfoldable pub backingAt : List ℕ → ℕ → TimerBacking
-backingAt w place = backingOf (getD w (place + 5) 0) (getD w (place + 6) 0) (getD w (place + 7) 0) (getD w (place + 8) 0)
+backingAt w place = backingOf (getD w (place + at.dpcBacking) 0) (getD w (place + at.dpcBase) 0) (getD w (place + at.dpcSize) 0) (getD w (place + at.dpcMapped) 0)
 
--- word 1 is the phase: 0 idle, 1 queued, 2 running, 3 returning
+-- the phase: 0 idle, 1 queued, 2 running, 3 returning
 unfoldable pub phaseAt : List ℕ → ℕ → DpcPhase
 phaseAt w place =
-    cond (eqb (getD w (place + 1) 0) 0) phase.Idle
-    (cond (eqb (getD w (place + 1) 0) 1) (phase.Queued (workAt w place))
-    (cond (eqb (getD w (place + 1) 0) 2) (phase.Running (workAt w place))
+    cond (eqb (getD w (place + at.phase) 0) 0) phase.Idle
+    (cond (eqb (getD w (place + at.phase) 0) 1) (phase.Queued (workAt w place))
+    (cond (eqb (getD w (place + at.phase) 0) 2) (phase.Running (workAt w place))
     (phase.Returning (workAt w place))))
 
 unfoldable pub dpcAt : List ℕ → ℕ → Dpc
-dpcAt w place = record { address = getD w place 0; architecture = architectureOf (getD w (place + 4) 0); backing = backingAt w place; routine = getD w (place + 9) 0; context = getD w (place + 10) 0; phase = phaseAt w place }
+dpcAt w place = record { address = getD w place 0; architecture = architectureOf (getD w (place + at.dpcArchitecture) 0); backing = backingAt w place; routine = getD w (place + at.routine) 0; context = getD w (place + at.context) 0; phase = phaseAt w place }

@@ -41,10 +41,10 @@ pub fn place(w: &[u64], n: u64) -> usize
     ensures { λ r. ⌜ r ≡ placeAt (now (w .entry)) n ⌝ }
 {
     if n == 0 {
-        return 96;
+        return layout::UNUSED;
     }
     if 4096 < n {
-        return 96;
+        return layout::UNUSED;
     }
     layout::entry_at(objects::dpcs_base(w), n - 1)
 }

@@ -15,7 +15,7 @@ use Rattle.events.specs.Events.{stateAt}
 
 -- the record at a place is an event's
 unfoldable pub isEvent : List ℕ → ℕ → Bool
-isEvent w place = eqb (getD w (place + 1) 0) 1
+isEvent w place = eqb (getD w (place + at.kind) 0) 1
 
 -- ---- event_states
 
@@ -55,7 +55,7 @@ keyHeld w key lo hi span =
     (waitsOn w 1 key)))))
 
 unfoldable pub isHeld : List ℕ → ℕ → ℕ → ℕ → ℕ → Bool
-isHeld w place lo hi span = cond (isEvent w place) (keyHeld w (getD w (place + 0) 0) lo hi span) false
+isHeld w place lo hi span = cond (isEvent w place) (keyHeld w (getD w (place + at.key) 0) lo hi span) false
 
 -- one of `m` records from record `i` on
 unfoldable pub heldIn : ℕ → List ℕ → ℕ → ℕ → ℕ → ℕ → ℕ → Bool
@@ -76,7 +76,7 @@ releaseAnswer w base size span = cond (eqb (releaseRefusal w base size span) 0) 
 
 -- an event whose key is from `lo` on and below `hi`
 unfoldable pub isRetired : List ℕ → ℕ → ℕ → ℕ → Bool
-isRetired w place lo hi = cond (isEvent w place) (cond (ltb (getD w (place + 0) 0) lo) false (ltb (getD w (place + 0) 0) hi)) false
+isRetired w place lo hi = cond (isEvent w place) (cond (ltb (getD w (place + at.key) 0) lo) false (ltb (getD w (place + at.key) 0) hi)) false
 
 -- `m` words from word `k` on of the record at place `from` copied to the one at place `to`, the first first
 unfoldable pub copiedIn : ℕ → List ℕ → ℕ → ℕ → ℕ → List ℕ
@@ -95,13 +95,13 @@ unfoldable pub kept : List ℕ → ℕ → ℕ → ℕ → ℕ → ℕ → List 
 kept w base i j lo hi = cond (isRetired w (entryAt base i) lo hi) w (moved w base i j)
 
 unfoldable pub keptTo : List ℕ → ℕ → ℕ → ℕ → ℕ → ℕ → ℕ
-keptTo w base i j lo hi = cond (isRetired w (entryAt base i) lo hi) j (j + 1)
+keptTo w base i j lo hi = cond (isRetired w (entryAt base i) lo hi) j (j + at.kind)
 
 -- `m` records from record `i` on, of which those that stay go to `j` and on; then the count
 unfoldable pub retiredIn : ℕ → List ℕ → ℕ → ℕ → ℕ → ℕ → ℕ → List ℕ
 retiredIn zero w base i j lo hi = set w at.objects j
 retiredIn (suc m) w base i j lo hi =
-    cond (isRetired w (entryAt base i) lo hi) (retiredIn m w base (i + 1) j lo hi) (retiredIn m (moved w base i j) base (i + 1) (j + 1) lo hi)
+    cond (isRetired w (entryAt base i) lo hi) (retiredIn m w base (i + 1) j lo hi) (retiredIn m (moved w base i j) base (i + 1) (j + at.kind) lo hi)
 
 unfoldable pub retired : List ℕ → ℕ → ℕ → List ℕ
 retired w lo hi = retiredIn (objectCount w) w (objectsBase w) 0 0 lo hi

@@ -4,6 +4,7 @@ use Prim.Native.Nat.{ℕ, _+_}
 use mathlib.Core.List.{List}
 use lib.ListN.{getD, set}
 use lib.Dec.{eqb}
+use Rattle.words.specs.Layout as at
 use Rattle.objects.specs.declared.Object.{Object}
 use Rattle.objects.specs.Objects.{placeOf, collides, full, entered}
 use Rattle.wakes.specs.Wake.{awake, waitsOn}
@@ -30,7 +31,7 @@ initialized w key manual signaled = unless (eventRefusal w key) w (outcome answe
 -- the record at a place; place 0 is none
 unfoldable pub stateAt : List ℕ → ℕ → Answer
 stateAt w place =
-    cond (eqb place 0) answer.None (answer.Event (getD w (place + 0) 0) (not (eqb (getD w (place + 2) 0) 0)) (not (eqb (getD w (place + 3) 0) 0)))
+    cond (eqb place 0) answer.None (answer.Event (getD w (place + at.key) 0) (not (eqb (getD w (place + at.manual) 0) 0)) (not (eqb (getD w (place + at.signaled) 0) 0)))
 
 unfoldable pub eventState : List ℕ → ℕ → Answer
 eventState w key = stateAt w (placeOf w 1 key)
@@ -38,14 +39,14 @@ eventState w key = stateAt w (placeOf w 1 key)
 -- ---- set_event, reset_event: 2
 
 unfoldable pub signaledAt : List ℕ → ℕ → Bool
-signaledAt w place = not (eqb (getD w (place + 3) 0) 0)
+signaledAt w place = not (eqb (getD w (place + at.signaled) 0) 0)
 
 unfoldable pub wasSet : List ℕ → ℕ → Outcome
 wasSet w key =
     let place = placeOf w 1 key in
-    cond (eqb place 0) (outcome (answer.Refused 2) w) (outcome (answer.Flag (signaledAt w place)) (awake (set w (place + 3) 1)))
+    cond (eqb place 0) (outcome (answer.Refused 2) w) (outcome (answer.Flag (signaledAt w place)) (awake (set w (place + at.signaled) 1)))
 
 unfoldable pub wasReset : List ℕ → ℕ → Outcome
 wasReset w key =
     let place = placeOf w 1 key in
-    cond (eqb place 0) (outcome (answer.Refused 2) w) (outcome (answer.Flag (signaledAt w place)) (set w (place + 3) 0))
+    cond (eqb place 0) (outcome (answer.Refused 2) w) (outcome (answer.Flag (signaledAt w place)) (set w (place + at.signaled) 0))

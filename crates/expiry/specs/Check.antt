@@ -1,5 +1,4 @@
--- What refuses an advance. Word 5 of a timer's record is inserted, 6 the due, 7 the period, 8 the DPC, 10 the arm, 11 the
--- initialization; word 1 of a DPC's record is the phase, 14 to 17 the origin of its work.
+-- What refuses an advance.
 use mathlib.Core.Bool.{Bool, cond, true, false}
 use mathlib.Core.List.{List, [], _∷_}
 use Prim.Native.Nat.{ℕ, _+_, _%_, _^_}
@@ -14,10 +13,10 @@ use Rattle.expiry.specs.declared.check.Counts.{Counts}
 -- the queued work is of the same timer, arm and initialization
 unfoldable pub isOwn : List ℕ → ℕ → ℕ → Bool
 isOwn w p place =
-    cond (eqb (getD w (p + 14) 0) 1)
-    (cond (eqb (getD w (p + 15) 0) (getD w (place + 0) 0))
-    (cond (eqb (getD w (p + 16) 0) (getD w (place + 10) 0))
-    (eqb (getD w (p + 17) 0) (getD w (place + 11) 0)) false) false) false
+    cond (eqb (getD w (p + at.origin) 0) 1)
+    (cond (eqb (getD w (p + at.originTimer) 0) (getD w (place + at.key) 0))
+    (cond (eqb (getD w (p + at.originArm) 0) (getD w (place + at.arm) 0))
+    (eqb (getD w (p + at.originInitialization) 0) (getD w (place + at.initialization) 0)) false) false) false
 
 -- document 01: 14, after 65,536 acceptances
 unfoldable pub idleRefusal : Counts → ℕ
@@ -30,20 +29,20 @@ queuedRefusal w p place c = cond (isOwn w p place) (cond (leb 184467440737095516
 -- document 01: running or returning 19
 unfoldable pub workRefusal : List ℕ → ℕ → ℕ → Counts → ℕ
 workRefusal w p place c =
-    let phase = getD w (p + 1) 0 in
+    let phase = getD w (p + at.phase) 0 in
     cond (eqb phase 0) (idleRefusal c) (cond (eqb phase 1) (queuedRefusal w p place c) 19)
 
 unfoldable pub timerPasses : List ℕ → ℕ → ℕ → Bool
-timerPasses w place time = passes (getD w (place + 6) 0) time (getD w (place + 7) 0)
+timerPasses w place time = passes (getD w (place + at.due) 0) time (getD w (place + at.period) 0)
 
 -- document 01, without a policy: 20 for one with a DPC, else 13 if the next due passes 2^64 − 1
 unfoldable pub plainRefusal : List ℕ → ℕ → ℕ → ℕ
-plainRefusal w place time = cond (eqb (getD w (place + 8) 0) 0) (cond (timerPasses w place time) 13 0) 20
+plainRefusal w place time = cond (eqb (getD w (place + at.timerDpc) 0) 0) (cond (timerPasses w place time) 13 0) 20
 
 -- document 01, with a policy: 13, then what its work meets
 unfoldable pub queuingRefusal : List ℕ → ℕ → ℕ → Counts → ℕ
 queuingRefusal w place time c =
-    let dpc = getD w (place + 8) 0 in
+    let dpc = getD w (place + at.timerDpc) 0 in
     cond (timerPasses w place time) 13 (cond (eqb dpc 0) 0 (workRefusal w (placeAt w (numberOf w dpc)) place c))
 
 unfoldable pub oneRefusal : List ℕ → ℕ → ℕ → Counts → ℕ
@@ -56,9 +55,9 @@ counts a d = record { accepted = a; duplicates = d }
 
 unfoldable pub countedAfter : List ℕ → ℕ → Counts → Counts
 countedAfter w place c =
-    let dpc = getD w (place + 8) 0 in
+    let dpc = getD w (place + at.timerDpc) 0 in
     cond (eqb dpc 0) c
-    (cond (eqb (getD w (placeAt w (numberOf w dpc) + 1) 0) 0)
+    (cond (eqb (getD w (placeAt w (numberOf w dpc) + at.phase) 0) 0)
     (counts ((c .accepted + 1) % 2 ^ 64) (c .duplicates))
     (counts (c .accepted) ((c .duplicates + 1) % 2 ^ 64)))
 

@@ -4,12 +4,13 @@ use mathlib.Core.List.{List, [], _∷_}
 use Prim.Native.Nat.{ℕ, zero, suc, _+_}
 use lib.ListN.{getD, set}
 use lib.Dec.{eqb, leb}
+use Rattle.words.specs.Layout as at
 use Rattle.words.specs.Layout.{entryAt}
 use Rattle.objects.specs.Objects.{objectsBase, objectCount}
 
--- word 1 of a record is the kind, 2 for a timer; word 5 is inserted, 6 the due
+-- an inserted timer (kind 2) whose due has come
 unfoldable pub isDue : List ℕ → ℕ → ℕ → Bool
-isDue w place time = cond (eqb (getD w (place + 1) 0) 2) (cond (eqb (getD w (place + 5) 0) 0) false (leb (getD w (place + 6) 0) time)) false
+isDue w place time = cond (eqb (getD w (place + at.kind) 0) 2) (cond (eqb (getD w (place + at.inserted) 0) 0) false (leb (getD w (place + at.due) 0) time)) false
 
 -- of the `m` objects from place `i` on
 unfoldable pub dueIn : ℕ → List ℕ → ℕ → ℕ → ℕ → List ℕ

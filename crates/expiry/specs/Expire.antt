@@ -17,32 +17,32 @@ flag n = cond (eqb n 0) 0 1
 -- the work of the timer whose record stands at `place`, seen at `time`
 unfoldable pub originOf : List ℕ → ℕ → ℕ → Origin
 originOf w place time =
-    record { timer = 1; address = getD w (place + 0) 0; arm = getD w (place + 10) 0; initialization = getD w (place + 11) 0; deadline = getD w (place + 6) 0; observed = time; periodic = flag (getD w (place + 7) 0) }
+    record { timer = 1; address = getD w (place + at.key) 0; arm = getD w (place + at.arm) 0; initialization = getD w (place + at.initialization) 0; deadline = getD w (place + at.due) 0; observed = time; periodic = flag (getD w (place + at.period) 0) }
 
 -- document 01: expiry puts work last, an acceptance, or at queued work counts a duplicate, first arguments kept
 unfoldable pub queuedFor : List ℕ → ℕ → ℕ → ℕ → List ℕ
 queuedFor w n place time =
-    cond (eqb (getD w (placeAt w n + 1) 0) 0) (accepted w n (getD w at.timerArgument 0) (getD w at.timerArgument2 0) (originOf w place time)) (raised w at.duplicates)
+    cond (eqb (getD w (placeAt w n + at.phase) 0) 0) (accepted w n (getD w at.timerArgument 0) (getD w at.timerArgument2 0) (originOf w place time)) (raised w at.duplicates)
 
 unfoldable pub workQueued : List ℕ → ℕ → ℕ → List ℕ
 workQueued w place time =
-    let dpc = getD w (place + 8) 0 in
+    let dpc = getD w (place + at.timerDpc) 0 in
     cond (eqb dpc 0) w (queuedFor w (numberOf w dpc) place time)
 
--- word 3 of a DPC's record is the inserted timer that has it
+-- no inserted timer has the DPC of this one any more
 unfoldable pub unnamed : List ℕ → ℕ → List ℕ
 unnamed w place =
-    let dpc = getD w (place + 8) 0 in
-    cond (eqb dpc 0) w (set w (placeAt w (numberOf w dpc) + 3) 0)
+    let dpc = getD w (place + at.timerDpc) 0 in
+    cond (eqb dpc 0) w (set w (placeAt w (numberOf w dpc) + at.namedBy) 0)
 
 -- a periodic timer is due again; another is no longer inserted
 unfoldable pub settled : List ℕ → ℕ → ℕ → List ℕ
 settled w place time =
-    let period = getD w (place + 7) 0 in
-    cond (eqb period 0) (unnamed (set w (place + 5) 0) place) (set w (place + 6) (laterDue (getD w (place + 6) 0) time period))
+    let period = getD w (place + at.period) 0 in
+    cond (eqb period 0) (unnamed (set w (place + at.inserted) 0) place) (set w (place + at.due) (laterDue (getD w (place + at.due) 0) time period))
 
 unfoldable pub expiredOne : List ℕ → ℕ → ℕ → List ℕ
-expiredOne w place time = settled (set (workQueued w place time) (place + 3) 1) place time
+expiredOne w place time = settled (set (workQueued w place time) (place + at.signaled) 1) place time
 
 -- one after another
 unfoldable pub expiredList : List ℕ → ℕ → List ℕ → ℕ → List ℕ

@@ -18,7 +18,7 @@ use Rattle.form_threads.specs.Thread.{hasState, stateCount}
 
 -- the sequence of a waiter's wait; at the chain's end, the next to be given
 unfoldable pub sequenceAt : List ℕ → ℕ → ℕ
-sequenceAt w id = cond (eqb id 0) (getD w at.sequence 0) (getD w (threadAt id + 9) 0)
+sequenceAt w id = cond (eqb id 0) (getD w at.sequence 0) (getD w (threadAt id + at.waitSequence) 0)
 
 -- along at most `k` waiters from `at` on
 unfoldable pub sequencesIn : ℕ → List ℕ → ℕ → Bool
@@ -35,7 +35,7 @@ sequencesRise w = sequencesIn 4096 w (firstOf w waitersChain)
 
 -- 0 stands for any priority
 unfoldable pub hasPriority : List ℕ → ℕ → ℕ → Bool
-hasPriority w id p = cond (eqb p 0) true (eqb (getD w (threadAt id + 0) 0) p)
+hasPriority w id p = cond (eqb p 0) true (eqb (getD w (threadAt id + at.priority) 0) p)
 
 -- a thread that may stand in a chain of threads of this state and priority
 unfoldable pub memberPasses : List ℕ → ℕ → ℕ → ℕ → Bool

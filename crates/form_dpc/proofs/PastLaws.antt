@@ -160,9 +160,9 @@ module _ (w : List ℕ) (base n : ℕ) (few : n ≤ 4096) (rise : (i : ℕ) → 
 
 entry-some : (w : List ℕ) (x : ℕ) → entryAt (objectsBase w) x ≡ 0 → ⊥
 unfolding entryAt objectsBase objectsAt
-entry-some w x = go (leb (getD w at.threadLimit 0) 256) (leb (objectsBase w) 1000000) (leb x 8192)
+entry-some w x = go (leb (getD w at.threadLimit 0) at.mostThreads) (leb (objectsBase w) 1000000) (leb x 8192)
   where
-    go : (a b d : Bool) → cond b (cond d (cond a (256 + 160 * getD w at.threadLimit 0) 256 + 32 * x) 96) 96 ≡ 0 → ⊥
+    go : (a b d : Bool) → cond b (cond d (cond a (at.headerSize + at.threadSize * getD w at.threadLimit 0) at.headerSize + 32 * x) at.unused) at.unused ≡ 0 → ⊥
     go true true true = λ e. omega arith
     go false true true = λ e. omega arith
     go a true false = λ e. omega arith

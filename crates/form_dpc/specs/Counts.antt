@@ -23,7 +23,7 @@ sumHolds w = sumHoldsAs w (phaseCount w 1) (activeCount w)
 abbrev pub activeNamedAs : List ℕ → ℕ → Bool
 activeNamedAs w active =
     let address = getD w at.active 0 in
-    cond (eqb address 0) (eqb active 0) (cond (eqb (dpcFound w address) 0) false (leb 2 (getD w (dpcFound w address + 1) 0)))
+    cond (eqb address 0) (eqb active 0) (cond (eqb (dpcFound w address) 0) false (leb 2 (getD w (dpcFound w address + at.phase) 0)))
 
 -- the active word is 0 where no work is active, else the address of a DPC whose work is
 unfoldable pub activeNamed : List ℕ → Bool

@@ -17,30 +17,30 @@ use Rattle.form_dpc.specs.Place.{keyRises, located}
 use Rattle.form_dpc.specs.Timer.{hasDpc}
 
 unfoldable pub dpcPlaced : List ℕ → ℕ → Bool
-dpcPlaced w place = located w place 4 (dpcSize (architectureOf (getD w (place + 4) 0)))
+dpcPlaced w place = located w place 4 (dpcSize (architectureOf (getD w (place + at.dpcArchitecture) 0)))
 
--- words 15 to 20 name no timer
+-- the origin names no timer
 unfoldable pub namesNoTimer : List ℕ → ℕ → Bool
 namesNoTimer w place =
-    cond (eqb (getD w (place + 15) 0) 0)
-    (cond (eqb (getD w (place + 16) 0) 0)
-    (cond (eqb (getD w (place + 17) 0) 0)
-    (cond (eqb (getD w (place + 18) 0) 0)
-    (cond (eqb (getD w (place + 19) 0) 0) (eqb (getD w (place + 20) 0) 0) false) false) false) false) false
+    cond (eqb (getD w (place + at.originTimer) 0) 0)
+    (cond (eqb (getD w (place + at.originArm) 0) 0)
+    (cond (eqb (getD w (place + at.originInitialization) 0) 0)
+    (cond (eqb (getD w (place + at.originDeadline) 0) 0)
+    (cond (eqb (getD w (place + at.originObserved) 0) 0) (eqb (getD w (place + at.originPeriodic) 0) 0) false) false) false) false) false
 
 -- words that say nothing hold 0: the timer's words of work that no timer put into the queue
 unfoldable pub originPasses : List ℕ → ℕ → Bool
-originPasses w place = cond (eqb (getD w (place + 14) 0) 0) (namesNoTimer w place) true
+originPasses w place = cond (eqb (getD w (place + at.origin) 0) 0) (namesNoTimer w place) true
 
 -- the flags of its work and its origin, which say nothing while the DPC is idle
 unfoldable pub workPasses : List ℕ → ℕ → Bool
 workPasses w place =
-    cond (eqb (getD w (place + 1) 0) 0) true
-    (cond (ltb 1 (getD w (place + 14) 0)) false (cond (originPasses w place) (leb (getD w (place + 20) 0) 1) false))
+    cond (eqb (getD w (place + at.phase) 0) 0) true
+    (cond (ltb 1 (getD w (place + at.origin) 0)) false (cond (originPasses w place) (leb (getD w (place + at.originPeriodic) 0) 1) false))
 
 -- document 01: stored numbers pass their checks, of a DPC
 unfoldable pub dpcNumbers : List ℕ → ℕ → Bool
-dpcNumbers w place = cond (ltb 3 (getD w (place + 1) 0)) false (cond (dpcPlaced w place) (workPasses w place) false)
+dpcNumbers w place = cond (ltb 3 (getD w (place + at.phase) 0)) false (cond (dpcPlaced w place) (workPasses w place) false)
 
 -- document 01: no key stands twice, of a DPC: neither in its own table nor in that of the objects
 unfoldable pub addressOnce : List ℕ → ℕ → ℕ → Bool
@@ -54,13 +54,13 @@ addressAt w base i j =
 -- document 01: no queued or active work bears a sequence not yet given
 unfoldable pub sequenceGiven : List ℕ → ℕ → Bool
 sequenceGiven w place =
-    cond (eqb (getD w (place + 1) 0) 0) true
-    (cond (eqb (getD w (place + 11) 0) 0) false (leb (getD w (place + 11) 0) (getD w at.accepted 0)))
+    cond (eqb (getD w (place + at.phase) 0) 0) true
+    (cond (eqb (getD w (place + at.workSequence) 0) 0) false (leb (getD w (place + at.workSequence) 0) (getD w at.accepted 0)))
 
 -- whom a DPC says it serves is an inserted timer that has it
 unfoldable pub namedRightly : List ℕ → ℕ → Bool
 namedRightly w place =
-    let key = getD w (place + 3) 0 in
+    let key = getD w (place + at.namedBy) 0 in
     cond (eqb key 0) true (cond (eqb (placeOf w 2 key) 0) false (hasDpc w (placeOf w 2 key) (getD w place 0)))
 
 unfoldable pub dpcPasses : List ℕ → ℕ → ℕ → Bool
@@ -84,7 +84,7 @@ dpcsPass w = dpcsIn (dpcCount w) w (dpcsBase w) 0
 -- ---- how many DPCs have a phase
 
 unfoldable pub hasPhase : List ℕ → ℕ → ℕ → Bool
-hasPhase w place phase = eqb (getD w (place + 1) 0) phase
+hasPhase w place phase = eqb (getD w (place + at.phase) 0) phase
 
 unfoldable pub phaseOne : List ℕ → ℕ → ℕ → ℕ
 phaseOne w place phase = cond (hasPhase w place phase) 1 0

@@ -13,34 +13,34 @@ use Rattle.form_dpc.specs.Place.{located}
 -- its four flags
 unfoldable pub timerFlags : List ℕ → ℕ → Bool
 timerFlags w place =
-    cond (ltb 1 (getD w (place + 2) 0)) false
-    (cond (ltb 1 (getD w (place + 3) 0)) false
-    (cond (ltb 1 (getD w (place + 5) 0)) false (leb (getD w (place + 9) 0) 1)))
+    cond (ltb 1 (getD w (place + at.manual) 0)) false
+    (cond (ltb 1 (getD w (place + at.signaled) 0)) false
+    (cond (ltb 1 (getD w (place + at.inserted) 0)) false (leb (getD w (place + at.absolute) 0) 1)))
 
 -- its period is no negative i32, and its initialization has been
 unfoldable pub timerTimes : List ℕ → ℕ → Bool
 timerTimes w place =
-    cond (ltb 2147483647 (getD w (place + 7) 0)) false
-    (cond (eqb (getD w (place + 11) 0) 0) false (leb (getD w (place + 11) 0) (getD w at.timerInitializations 0)))
+    cond (ltb 2147483647 (getD w (place + at.period) 0)) false
+    (cond (eqb (getD w (place + at.initialization) 0) 0) false (leb (getD w (place + at.initialization) 0) (getD w at.timerInitializations 0)))
 
 unfoldable pub timerPlaced : List ℕ → ℕ → Bool
-timerPlaced w place = located w place 12 (timerSize (architectureOf (getD w (place + 12) 0)))
+timerPlaced w place = located w place 12 (timerSize (architectureOf (getD w (place + at.timerArchitecture) 0)))
 
 -- document 01: stored numbers pass their checks, of a timer
 unfoldable pub timerNumbers : List ℕ → ℕ → Bool
 timerNumbers w place = cond (timerFlags w place) (cond (timerTimes w place) (timerPlaced w place) false) false
 
--- the DPC exists and says that the timer with the key has it: word 3 of its record
+-- the DPC exists and says that the timer with the key has it
 unfoldable pub servesIt : List ℕ → ℕ → ℕ → Bool
-servesIt w dpc key = cond (eqb (dpcFound w dpc) 0) false (eqb (getD w (dpcFound w dpc + 3) 0) key)
+servesIt w dpc key = cond (eqb (dpcFound w dpc) 0) false (eqb (getD w (dpcFound w dpc + at.namedBy) 0) key)
 
 -- document 01: an inserted timer's DPC, if any, exists and serves no other
 unfoldable pub dpcServes : List ℕ → ℕ → Bool
 dpcServes w place =
-    let dpc = getD w (place + 8) 0 in
-    cond (eqb (getD w (place + 1) 0) 2)
-    (cond (eqb (getD w (place + 5) 0) 0) true (cond (eqb dpc 0) true (servesIt w dpc (getD w place 0)))) true
+    let dpc = getD w (place + at.timerDpc) 0 in
+    cond (eqb (getD w (place + at.kind) 0) 2)
+    (cond (eqb (getD w (place + at.inserted) 0) 0) true (cond (eqb dpc 0) true (servesIt w dpc (getD w place 0)))) true
 
 -- the timer is inserted and has the DPC
 unfoldable pub hasDpc : List ℕ → ℕ → ℕ → Bool
-hasDpc w place dpc = cond (eqb (getD w (place + 5) 0) 0) false (eqb (getD w (place + 8) 0) dpc)
+hasDpc w place dpc = cond (eqb (getD w (place + at.inserted) 0) 0) false (eqb (getD w (place + at.timerDpc) 0) dpc)

@@ -4,6 +4,7 @@ use native.Mathlib.Omega.{arith}
 use mathlib.Core.List.{List}
 use mathlib.Core.Bool.{Bool, cond, true, false}
 use mathlib.Core.Path.{_≡_, refl, ap, _∙_}
+use Rattle.words.specs.Layout as at
 use Rattle.threads.specs.Thread.{threadCount}
 use Rattle.threads.proofs.ThreadLaws.{count-small}
 use Rattle.form_threads.specs.Thread.{hasState, threadPasses, threadsIn, threadsPass, oneIf, stateCountIn, stateCount, threadsSeen}
@@ -49,7 +50,7 @@ count-more (suc m) w id state h = simp (less-one m)
 
 -- `n` have the state before thread `id`, with `left` threads to go
 pub record Counting (w : List ℕ) (id left n state : ℕ) : Type 0 where
-  pub few : n + left ≤ 256
+  pub few : n + left ≤ at.mostThreads
   pub all : n + stateCountIn left w id state ≡ stateCount w state
 
 pub counting-none : (w : List ℕ) (left state : ℕ) → left ≡ threadCount w → Counting w 1 left 0 state
@@ -59,7 +60,7 @@ counting-none w left state e = record {
   all = let q : stateCountIn left w 1 state ≡ stateCountIn (threadCount w) w 1 state = cc in omega arith;
 }
 
-pub counting-fits : (w : List ℕ) (id left n state one : ℕ) → 0 < left → one ≡ oneIf w id state → Counting w id left n state → n + one ≤ 256
+pub counting-fits : (w : List ℕ) (id left n state one : ℕ) → 0 < left → one ≡ oneIf w id state → Counting w id left n state → n + one ≤ at.mostThreads
 counting-fits w id left n state one h e t = omega (arith, one-small w id state, t .few)
 
 pub counting-more : (w : List ℕ) (id left n state one : ℕ) → 0 < left → one ≡ oneIf w id state

@@ -12,7 +12,7 @@ use Rattle.opening.specs.Open.{badPriority}
 use Rattle.form_threads.specs.declared.Seen.{Seen}
 
 unfoldable pub hasState : List ℕ → ℕ → ℕ → Bool
-hasState w id state = eqb (getD w (threadAt id + 1) 0) state
+hasState w id state = eqb (getD w (threadAt id + at.state) 0) state
 
 -- there is a thread of this number that has not exited
 unfoldable pub live : List ℕ → ℕ → Bool
@@ -29,18 +29,18 @@ recordPasses w id =
 
 -- words that say nothing hold 0: the exit status of a thread that has not exited
 unfoldable pub exitPasses : List ℕ → ℕ → Bool
-exitPasses w id = cond (hasState w id 4) true (eqb (getD w (threadAt id + 5) 0) 0)
+exitPasses w id = cond (hasState w id 4) true (eqb (getD w (threadAt id + at.status) 0) 0)
 
--- the wait that a thread has, or had last: word 6 all, 7 timed, 10 the count of places, then their kinds
+-- the wait that a thread has, or had last: whether for all, whether timed, how many places, then their kinds
 unfoldable pub waitPasses : List ℕ → ℕ → Bool
 waitPasses w id =
-    cond (ltb 1 (getD w (threadAt id + 6) 0)) false
-    (cond (ltb 1 (getD w (threadAt id + 7) 0)) false
-    (cond (ltb 64 (getD w (threadAt id + 10) 0)) false (not (badKindIn (countOf w id) w (placesAt id) 0))))
+    cond (ltb 1 (getD w (threadAt id + at.waitAll) 0)) false
+    (cond (ltb 1 (getD w (threadAt id + at.hasDeadline) 0)) false
+    (cond (ltb 64 (getD w (threadAt id + at.waitCount) 0)) false (not (badKindIn (countOf w id) w (placesAt id) 0))))
 
 -- a thread that waits for no object is delayed, until a time
 unfoldable pub delayPasses : List ℕ → ℕ → Bool
-delayPasses w id = cond (hasState w id 3) (cond (eqb (countOf w id) 0) (eqb (getD w (threadAt id + 7) 0) 1) true) true
+delayPasses w id = cond (hasState w id 3) (cond (eqb (countOf w id) 0) (eqb (getD w (threadAt id + at.hasDeadline) 0) 1) true) true
 
 -- document 01: stored numbers pass their checks, of a thread
 unfoldable pub threadNumbers : List ℕ → ℕ → Bool

@@ -22,7 +22,7 @@ newMutex owner = record { kind = 0; manual = 0; signaled = 0; owner = owner }
 
 -- the owner's number, 0 for none
 unfoldable pub ownerOf : List ℕ → ℕ → ℕ
-ownerOf w key = cond (eqb (placeOf w 0 key) 0) 0 (getD w (placeOf w 0 key + 4) 0)
+ownerOf w key = cond (eqb (placeOf w 0 key) 0) 0 (getD w (placeOf w 0 key + at.owner) 0)
 
 -- ---- initialize_mutex: 5 key held by another kind; 4 key 0, or a new key at the limit; 6 owned or waited on
 
@@ -77,7 +77,7 @@ releaseRefusal w key =
     cond (eqb (getD w at.current 0) 0) 3 (cond (eqb (placeOf w 0 key) 0) 2 (cond (eqb (ownerOf w key) (getD w at.current 0)) 0 10))
 
 unfoldable pub freed : List ℕ → ℕ → List ℕ
-freed w key = set w (placeOf w 0 key + 4) 0
+freed w key = set w (placeOf w 0 key + at.owner) 0
 
 unfoldable pub released : List ℕ → ℕ → Outcome
 released w key = unless (releaseRefusal w key) w (outcome answer.Done (awake (freed w key)))

@@ -33,11 +33,11 @@ objectFound w key = foundAt w (objectsBase w) (getD w at.objects 0) key
 unfoldable pub dpcFound : List ℕ → ℕ → ℕ
 dpcFound w address = foundAt w (dpcsBase w) (getD w at.dpcs 0) address
 
--- word 1 of an object's record is its kind
+-- where the object of this kind and key stands, 0 for none
 unfoldable pub placeOf : List ℕ → ℕ → ℕ → ℕ
 placeOf w kind key =
     let place = objectFound w key in
-    cond (eqb place 0) 0 (cond (eqb (getD w (place + 1) 0) kind) place 0)
+    cond (eqb place 0) 0 (cond (eqb (getD w (place + at.kind) 0) kind) place 0)
 
 -- ---- tests
 
@@ -46,7 +46,7 @@ unfoldable pub collides : List ℕ → ℕ → ℕ → Bool
 collides w kind key =
     let place = objectFound w key in
     let dpc = not (eqb (dpcFound w key) 0) in
-    cond (eqb place 0) dpc (cond (eqb (getD w (place + 1) 0) kind) dpc true)
+    cond (eqb place 0) dpc (cond (eqb (getD w (place + at.kind) 0) kind) dpc true)
 
 -- the key is new, and the table is at its limit
 unfoldable pub full : List ℕ → ℕ → Bool
@@ -54,9 +54,8 @@ full w key = cond (eqb (objectFound w key) 0) (leb (getD w at.objectLimit 0) (ge
 
 -- ---- writing
 
--- word 0 the key, 1 the kind, 2 manual, 3 signaled, 4 the owner
 unfoldable pub putObject : List ℕ → ℕ → ℕ → Object → List ℕ
-putObject w place key o = set (set (set (set (set w place key) (place + 1) (o .kind)) (place + 2) (o .manual)) (place + 3) (o .signaled)) (place + 4) (o .owner)
+putObject w place key o = set (set (set (set (set w place key) (place + at.kind) (o .kind)) (place + at.manual) (o .manual)) (place + at.signaled) (o .signaled)) (place + at.owner) (o .owner)
 
 unfoldable pub inserted : List ℕ → ℕ → Object → List ℕ
 inserted w key o =

@@ -16,10 +16,10 @@ badPriority p = cond (ltb p 1) true (ltb 31 p)
 
 -- limits are 1 to 256 threads, up to 4096 objects, up to 4096 DPCs
 unfoldable pub badLimits : ℕ → ℕ → ℕ → Bool
-badLimits t o d = cond (ltb t 1) true (cond (ltb 256 t) true (cond (ltb 4096 o) true (ltb 4096 d)))
+badLimits t o d = cond (ltb t 1) true (cond (ltb at.mostThreads t) true (cond (ltb 4096 o) true (ltb 4096 d)))
 
 abbrev pub wordsNeeded : ℕ → ℕ → ℕ → ℕ
-wordsNeeded t o d = 256 + 160 * t + 32 * (o + d)
+wordsNeeded t o d = at.headerSize + at.threadSize * t + 32 * (o + d)
 
 unfoldable pub sized : ℕ → ℕ → ℕ → Answer
 sized t o d = cond (badLimits t o d) (Refused 27) (Count (wordsNeeded t o d))
@@ -39,7 +39,7 @@ limited w t o d = set (set (set (set (set w at.threadLimit t) at.objectLimit o) 
 -- state 1 is running
 unfoldable pub started : List ℕ → ℕ → ℕ → ℕ → ℕ → List ℕ
 started w priority t o d =
-    putThread (putWait (limited (cleared 96 w) t o d) 1 noWait) 1 (record { priority = priority; state = 1; result = 0; status = 0 })
+    putThread (putWait (limited (cleared at.unused w) t o d) 1 noWait) 1 (record { priority = priority; state = 1; result = 0; status = 0 })
 
 unfoldable pub opened : List ℕ → ℕ → ℕ → ℕ → ℕ → Outcome
 opened w priority t o d = unless (openRefusal w priority t o d) w (outcome Done (started w priority t o d))

@@ -1,6 +1,7 @@
 // Opening a scheduler in lent words.
 ghost use mathlib.Core.Path.{_≡_};
 ghost use mathlib.Core.Bool.{false};
+ghost use Rattle.words.specs.Layout as at;
 ghost use Rattle.answers.specs.Outcome.{outcome};
 ghost use Rattle.opening.specs.Open.{badPriority, badLimits, wordsNeeded, openRefusal, cleared, limited, started, opened, sized};
 use answers::Answer;
@@ -23,7 +24,7 @@ pub fn has_bad_limits(t: u64, o: u64, d: u64) -> bool
     if t < 1 {
         return true;
     }
-    if 256 < t {
+    if layout::MOST_THREADS < t {
         return true;
     }
     if 4096 < o {
@@ -66,10 +67,10 @@ fn open_refusal(w: &[u64], priority: u64, t: u64, o: u64, d: u64) -> u64
 
 // The header's words set to 0.
 fn clear(w: &mut [u64])
-    ensures { λ r. ⌜ now (w .exit) ≡ cleared 96 (now (w .entry)) ⌝ }
+    ensures { λ r. ⌜ now (w .exit) ≡ cleared at.unused (now (w .entry)) ⌝ }
 {
     let mut i: usize = 0;
-    while i < 96 {
+    while i < layout::UNUSED {
         words::put(w, i, 0);
         i += 1;
     }

@@ -3,6 +3,7 @@ use Prim.Native.Nat.{ℕ}
 use mathlib.Core.List.{List, [], _∷_}
 use mathlib.Core.Path.{_≡_, refl, sym, ap, _∙_, subst}
 use lib.ListN.{length}
+use Rattle.words.specs.Layout as at
 use Rattle.model.specs.Refusal.{openRefusal}
 use Rattle.model.specs.Answer.{Answer, Done}
 use Rattle.model.specs.Call.{Call, Open}
@@ -37,15 +38,15 @@ theorem w p t o d calls accepted proper = record {
   ready = r .agree .queues;
   waiters = r .agree .waiters;
   queue = r .agree .work;
-  active = r .agree .numbers 25 _ refl;
-  accepted = r .agree .numbers 13 _ refl;
-  duplicates = r .agree .numbers 14 _ refl;
-  removed = r .agree .numbers 15 _ refl;
-  started = r .agree .numbers 16 _ refl;
-  returned = r .agree .numbers 17 _ refl;
-  restored = r .agree .numbers 18 _ refl;
-  timers-made = r .agree .numbers 19 _ refl;
-  dpcs-made = r .agree .numbers 20 _ refl;
+  active = r .agree .numbers at.active _ refl;
+  accepted = r .agree .numbers at.accepted _ refl;
+  duplicates = r .agree .numbers at.duplicates _ refl;
+  removed = r .agree .numbers at.removed _ refl;
+  started = r .agree .numbers at.started _ refl;
+  returned = r .agree .numbers at.returned _ refl;
+  restored = r .agree .numbers at.restored _ refl;
+  timers-made = r .agree .numbers at.timerInitializations _ refl;
+  dpcs-made = r .agree .numbers at.dpcInitializations _ refl;
   all = r .agree;
   in-form = passes (end w p t o d calls) (logged w p t o d calls) (r .agree) valid (r .numbers);
   valid = valid;

@@ -63,7 +63,7 @@ yielded w = cond (eqb (getD w at.current 0) 0) (outcome (answer.Refused 3) w) (o
 -- ---- terminate: 3; 10 owns a mutex
 
 unfoldable pub ownerAt : List ℕ → ℕ → ℕ → ℕ → Bool
-ownerAt w base i id = cond (eqb (getD w (entryAt base i + 1) 0) 0) (eqb (getD w (entryAt base i + 4) 0) id) false
+ownerAt w base i id = cond (eqb (getD w (entryAt base i + at.kind) 0) 0) (eqb (getD w (entryAt base i + at.owner) 0) id) false
 
 -- one of the `m` objects from place `i` on is a mutex of the thread's
 unfoldable pub ownsIn : ℕ → List ℕ → ℕ → ℕ → ℕ → Bool

@@ -8,6 +8,7 @@ use mathlib.Core.Path.{_≡_, refl}
 use lib.Dec.{leb}
 use borrow.Author.Tests.{leb-true}
 use lib.ListN.{getD, set, length, length-set, replicate}
+use Rattle.words.specs.Layout as at
 use Rattle.threads.specs.Thread.{threadCount, filled, putPlaces}
 
 pub filled-next : (k : ℕ) (list : List ℕ) → filled (k + 1) list ≡ set (filled k list) k (getD list k 0)
@@ -37,10 +38,10 @@ pub filled-none : (list : List ℕ) → replicate 128 0 ≡ filled 0 list
 unfolding filled
 filled-none list = refl
 
-pub count-small : (w : List ℕ) → threadCount w ≤ 256
+pub count-small : (w : List ℕ) → threadCount w ≤ at.mostThreads
 unfolding threadCount
-count-small w = go (leb (getD w 3 0) 256) refl
+count-small w = go (leb (getD w at.threads 0) at.mostThreads) refl
   where
-    go : (b : Bool) → leb (getD w 3 0) 256 ≡ b → cond b (getD w 3 0) 256 ≤ 256
+    go : (b : Bool) → leb (getD w at.threads 0) at.mostThreads ≡ b → cond b (getD w at.threads 0) at.mostThreads ≤ at.mostThreads
     go true e = leb-true _ _ e
     go false e = omega arith

@@ -1,5 +1,4 @@
--- A thread's record in the words: word 0 its priority, 1 its state, 4 its wait result, 5 its exit status, and of its wait
--- word 6 all, 7 timed, 8 the deadline, 9 the sequence, 10 the count, from 32 on the places.
+-- A thread's record in the words.
 use mathlib.Core.Bool.{Bool, cond, false}
 use Prim.Native.Nat.{ℕ, zero, suc, _+_, _*_}
 use mathlib.Core.List.{List}
@@ -13,33 +12,33 @@ use Rattle.threads.specs.declared.Wait.{Wait}
 unfoldable pub threadOf : List ℕ → ℕ → Thread
 threadOf w id =
     record {
-      priority = getD w (threadAt id + 0) 0;
-      state = getD w (threadAt id + 1) 0;
-      result = getD w (threadAt id + 4) 0;
-      status = getD w (threadAt id + 5) 0;
+      priority = getD w (threadAt id + at.priority) 0;
+      state = getD w (threadAt id + at.state) 0;
+      result = getD w (threadAt id + at.result) 0;
+      status = getD w (threadAt id + at.status) 0;
     }
 
 unfoldable pub putThread : List ℕ → ℕ → Thread → List ℕ
 putThread w id t =
-    set (set (set (set w (threadAt id + 0) (t .priority)) (threadAt id + 1) (t .state)) (threadAt id + 4) (t .result)) (threadAt id + 5) (t .status)
+    set (set (set (set w (threadAt id + at.priority) (t .priority)) (threadAt id + at.state) (t .state)) (threadAt id + at.result) (t .result)) (threadAt id + at.status) (t .status)
 
 -- there is a thread of this number
 unfoldable pub known : List ℕ → ℕ → Bool
 known w id = cond (ltb id 1) false (leb id (getD w at.threads 0))
 
--- how many threads there are, at most 256
+-- how many threads there are, at most the largest number of one
 unfoldable pub threadCount : List ℕ → ℕ
-threadCount w = cond (leb (getD w at.threads 0) 256) (getD w at.threads 0) 256
+threadCount w = cond (leb (getD w at.threads 0) at.mostThreads) (getD w at.threads 0) at.mostThreads
 
 -- how many objects a thread waits for, at most 64
 unfoldable pub countOf : List ℕ → ℕ → ℕ
-countOf w id = cond (leb (getD w (threadAt id + 10) 0) 64) (getD w (threadAt id + 10) 0) 64
+countOf w id = cond (leb (getD w (threadAt id + at.waitCount) 0) 64) (getD w (threadAt id + at.waitCount) 0) 64
 
 unfoldable pub allOf : List ℕ → ℕ → ℕ
-allOf w id = getD w (threadAt id + 6) 0
+allOf w id = getD w (threadAt id + at.waitAll) 0
 
 unfoldable pub placesAt : ℕ → ℕ
-placesAt id = threadAt id + 32
+placesAt id = threadAt id + at.waitPlaces
 
 -- the first `k` words of a list in an array of 64 places, each a kind and a key
 unfoldable pub filled : ℕ → List ℕ → List ℕ
@@ -58,7 +57,7 @@ putPlaces (suc k) w place places i = putPlaces k (set w (place + i) (getD places
 
 unfoldable pub putTerms : List ℕ → ℕ → Wait → List ℕ
 putTerms w id x =
-    set (set (set (set (set w (threadAt id + 6) (x .all)) (threadAt id + 7) (x .timed)) (threadAt id + 8) (x .deadline)) (threadAt id + 9) (x .sequence)) (threadAt id + 10) (x .count)
+    set (set (set (set (set w (threadAt id + at.waitAll) (x .all)) (threadAt id + at.hasDeadline) (x .timed)) (threadAt id + at.deadline) (x .deadline)) (threadAt id + at.waitSequence) (x .sequence)) (threadAt id + at.waitCount) (x .count)
 
 unfoldable pub putWait : List ℕ → ℕ → Wait → List ℕ
 putWait w id x = putPlaces (2 * x .count) (putTerms w id x) (placesAt id) (x .places) 0

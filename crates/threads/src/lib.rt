@@ -69,15 +69,15 @@ pub fn is_known(w: &[u64], id: u64) -> bool
     id <= words::get(w, layout::THREADS)
 }
 
-// How many threads there are, at most 256.
+// How many threads there are, at most the largest number of one.
 pub fn count(w: &[u64]) -> u64
     ensures { λ r. ⌜ r ≡ threadCount (now (w .entry)) ⌝ }
 {
     let n = words::get(w, layout::THREADS);
-    if n <= 256 {
+    if n <= layout::MOST_THREADS {
         return n;
     }
-    256
+    layout::MOST_THREADS
 }
 
 // How many objects a thread waits for, at most 64.

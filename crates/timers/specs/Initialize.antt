@@ -23,8 +23,8 @@ use Rattle.timers.specs.Record.{isInserted, sizeAt, dpcSizeAt, busy, som
 
 unfoldable pub objectOverlaps : List ℕ → ℕ → ℕ → ℕ → Bool
 objectOverlaps w place address size =
-    let key = getD w (place + 0) 0 in
-    let kind = getD w (place + 1) 0 in
+    let key = getD w (place + at.key) 0 in
+    let kind = getD w (place + at.kind) 0 in
     cond (eqb kind 2) (cond (eqb key address) false (overlaps address size key (sizeAt w place)))
     (cond (eqb kind 1) (overlaps address size key 24) (overlaps address size key 56))
 
@@ -33,7 +33,7 @@ anyObject w address size = someIn (objectCount w) (λ place. objectOverlaps w pl
 
 unfoldable pub dpcOverlaps : List ℕ → ℕ → ℕ → ℕ → Bool
 dpcOverlaps w place address size =
-    let key = getD w (place + 0) 0 in
+    let key = getD w (place + at.address) 0 in
     cond (eqb key address) false (overlaps address size key (dpcSizeAt w place))
 
 unfoldable pub anyDpc : List ℕ → ℕ → ℕ → Bool
@@ -63,17 +63,17 @@ newTimer manual = record { kind = 2; manual = bit manual; signaled = 0; owner = 
 
 -- not inserted, due 0, no period, no DPC, not absolute, arm count 0
 unfoldable pub neverSet : List ℕ → ℕ → List ℕ
-neverSet w place = set (set (set (set (set (set w (place + 5) 0) (place + 6) 0) (place + 7) 0) (place + 8) 0) (place + 9) 0) (place + 10) 0
+neverSet w place = set (set (set (set (set (set w (place + at.inserted) 0) (place + at.due) 0) (place + at.period) 0) (place + at.timerDpc) 0) (place + at.absolute) 0) (place + at.arm) 0
 
 unfoldable pub located : List ℕ → ℕ → Architecture → TimerBacking → List ℕ
 located w place a b =
-    set (set (set (set (set w (place + 12) (architectureNumber a)) (place + 13) (backingKind b)) (place + 14) (backingBase b)) (place + 15) (backingSize b)) (place + 16) (backingMapped b)
+    set (set (set (set (set w (place + at.timerArchitecture) (architectureNumber a)) (place + at.timerBacking) (backingKind b)) (place + at.timerBase) (backingBase b)) (place + at.timerSize) (backingSize b)) (place + at.timerMapped) (backingMapped b)
 
--- the words behind those of every object; word 11 is the initialization
+-- the words behind those of every object
 unfoldable pub recordPut : List ℕ → ℕ → Architecture → TimerBacking → ℕ → List ℕ
 recordPut w address a b n =
     let place = placeOf w 2 address in
-    set (located (neverSet w place) place a b) (place + 11) n
+    set (located (neverSet w place) place a b) (place + at.initialization) n
 
 unfoldable pub timerInitialized : List ℕ → ℕ → Architecture → TimerBacking → Bool → Outcome
 timerInitialized w address a b manual =

@@ -56,7 +56,7 @@ timerInitializations w = answer.Count (getD w at.timerInitializations 0)
 
 -- an inserted timer that has a DPC
 unfoldable pub isPending : List ℕ → ℕ → Bool
-isPending w place = cond (isTimer w place) (cond (isInserted w place) (not (eqb (getD w (place + 8) 0) 0)) false) false
+isPending w place = cond (isTimer w place) (cond (isInserted w place) (not (eqb (getD w (place + at.timerDpc) 0) 0)) false) false
 
 -- where the first of them stands; 0 where there is none
 unfoldable pub pendingTimer : List ℕ → ℕ
@@ -89,13 +89,13 @@ lastDpc w end =
 unfoldable pub overlapsTimer : List ℕ → ℕ → ℕ → Bool
 overlapsTimer w address size =
     let place = lastTimer w (endOf address size) in
-    cond (eqb size 0) false (cond (eqb place 0) false (overlaps address size (getD w (place + 0) 0) (sizeAt w place)))
+    cond (eqb size 0) false (cond (eqb place 0) false (overlaps address size (getD w (place + at.key) 0) (sizeAt w place)))
 
 -- the same of the DPCs
 unfoldable pub overlapsDpc : List ℕ → ℕ → ℕ → Bool
 overlapsDpc w address size =
     let place = lastDpc w (endOf address size) in
-    cond (eqb size 0) false (cond (eqb place 0) false (overlaps address size (getD w (place + 0) 0) (dpcSizeAt w place)))
+    cond (eqb size 0) false (cond (eqb place 0) false (overlaps address size (getD w (place + at.address) 0) (dpcSizeAt w place)))
 
 unfoldable pub readOverlap : List ℕ → ℕ → ℕ → Answer
 readOverlap w address size = answer.Flag (overlapsTimer w address size)

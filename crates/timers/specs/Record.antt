@@ -4,49 +4,50 @@ use Prim.Native.Nat.{ℕ, zero, suc, _+_}
 use mathlib.Core.List.{List}
 use lib.ListN.{getD}
 use lib.Dec.{eqb}
+use Rattle.words.specs.Layout as at
 use Rattle.words.specs.Layout.{entryAt}
 use Rattle.objects.specs.Objects.{dpcFound}
 use Rattle.images.specs.declared.Timer.{Timer}
 use Rattle.images.specs.declared.TimerBacking.{TimerBacking}
 use Rattle.images.specs.Place.{architectureOf, backingOf, timerSize, dpcSize}
 
--- words 13 to 16
+-- where a timer stands
 unfoldable pub backingAt : List ℕ → ℕ → TimerBacking
-backingAt w place = backingOf (getD w (place + 13) 0) (getD w (place + 14) 0) (getD w (place + 15) 0) (getD w (place + 16) 0)
+backingAt w place = backingOf (getD w (place + at.timerBacking) 0) (getD w (place + at.timerBase) 0) (getD w (place + at.timerSize) 0) (getD w (place + at.timerMapped) 0)
 
 unfoldable pub timerAt : List ℕ → ℕ → Timer
 timerAt w place =
     record {
-      address = getD w (place + 0) 0;
-      architecture = architectureOf (getD w (place + 12) 0);
+      address = getD w (place + at.key) 0;
+      architecture = architectureOf (getD w (place + at.timerArchitecture) 0);
       backing = backingAt w place;
-      «manual_reset» = not (eqb (getD w (place + 2) 0) 0);
-      signaled = not (eqb (getD w (place + 3) 0) 0);
-      inserted = not (eqb (getD w (place + 5) 0) 0);
-      due = getD w (place + 6) 0;
-      «period_ms» = getD w (place + 7) 0;
-      dpc = getD w (place + 8) 0;
-      absolute = not (eqb (getD w (place + 9) 0) 0);
-      «arm_generation» = getD w (place + 10) 0;
-      initialization = getD w (place + 11) 0;
+      «manual_reset» = not (eqb (getD w (place + at.manual) 0) 0);
+      signaled = not (eqb (getD w (place + at.signaled) 0) 0);
+      inserted = not (eqb (getD w (place + at.inserted) 0) 0);
+      due = getD w (place + at.due) 0;
+      «period_ms» = getD w (place + at.period) 0;
+      dpc = getD w (place + at.timerDpc) 0;
+      absolute = not (eqb (getD w (place + at.absolute) 0) 0);
+      «arm_generation» = getD w (place + at.arm) 0;
+      initialization = getD w (place + at.initialization) 0;
     }
 
 unfoldable pub isTimer : List ℕ → ℕ → Bool
-isTimer w place = eqb (getD w (place + 1) 0) 2
+isTimer w place = eqb (getD w (place + at.kind) 0) 2
 
 unfoldable pub isInserted : List ℕ → ℕ → Bool
-isInserted w place = not (eqb (getD w (place + 5) 0) 0)
+isInserted w place = not (eqb (getD w (place + at.inserted) 0) 0)
 
 -- the bytes of the timer at a place, and those of the DPC at one
 unfoldable pub sizeAt : List ℕ → ℕ → ℕ
-sizeAt w place = timerSize (architectureOf (getD w (place + 12) 0))
+sizeAt w place = timerSize (architectureOf (getD w (place + at.timerArchitecture) 0))
 
 unfoldable pub dpcSizeAt : List ℕ → ℕ → ℕ
-dpcSizeAt w place = dpcSize (architectureOf (getD w (place + 4) 0))
+dpcSizeAt w place = dpcSize (architectureOf (getD w (place + at.dpcArchitecture) 0))
 
 -- there is such a DPC, and its phase is not idle
 unfoldable pub busy : List ℕ → ℕ → Bool
-busy w address = cond (eqb (dpcFound w address) 0) false (not (eqb (getD w (dpcFound w address + 1) 0) 0))
+busy w address = cond (eqb (dpcFound w address) 0) false (not (eqb (getD w (dpcFound w address + at.phase) 0) 0))
 
 -- ---- walks of a table that starts at `base`, over `m` records from record `i` on
 

@@ -22,7 +22,7 @@ use Rattle.timers.specs.Record.{isTimer, isInserted, sizeAt, dpcSizeAt, 
 -- the work of the DPC at a place came from this timer (origin 1), which is periodic
 unfoldable pub periodicOrigin : List ℕ → ℕ → ℕ → Bool
 periodicOrigin w place key =
-    cond (eqb (getD w (place + 14) 0) 1) (cond (eqb (getD w (place + 15) 0) key) (not (eqb (getD w (place + 20) 0) 0)) false) false
+    cond (eqb (getD w (place + at.origin) 0) 1) (cond (eqb (getD w (place + at.originTimer) 0) key) (not (eqb (getD w (place + at.originPeriodic) 0) 0)) false) false
 
 unfoldable pub activeOrigin : List ℕ → ℕ → Bool
 activeOrigin w key =
@@ -30,11 +30,11 @@ activeOrigin w key =
     cond (eqb (getD w at.active 0) 0) false (cond (eqb place 0) false (periodicOrigin w place key))
 
 unfoldable pub timerStands : List ℕ → ℕ → ℕ → ℕ → Bool
-timerStands w place address size = cond (isTimer w place) (overlaps address size (getD w (place + 0) 0) (sizeAt w place)) false
+timerStands w place address size = cond (isTimer w place) (overlaps address size (getD w (place + at.key) 0) (sizeAt w place)) false
 
 unfoldable pub isTimerHeld : List ℕ → ℕ → Bool
 isTimerHeld w place =
-    let key = getD w (place + 0) 0 in
+    let key = getD w (place + at.key) 0 in
     cond (isInserted w place) true (cond (waitsOn w 2 key) true (activeOrigin w key))
 
 unfoldable pub timerHeld : List ℕ → ℕ → ℕ → ℕ → Bool
@@ -44,11 +44,11 @@ unfoldable pub anyTimerHeld : List ℕ → ℕ → ℕ → Bool
 anyTimerHeld w address size = someIn (objectCount w) (λ place. timerHeld w place address size) (objectsBase w) 0
 
 unfoldable pub dpcStands : List ℕ → ℕ → ℕ → ℕ → Bool
-dpcStands w place address size = overlaps address size (getD w (place + 0) 0) (dpcSizeAt w place)
+dpcStands w place address size = overlaps address size (getD w (place + at.address) 0) (dpcSizeAt w place)
 
--- word 1 is the phase, word 3 the inserted timer that has it
+-- not idle, or an inserted timer has it
 unfoldable pub isDpcHeld : List ℕ → ℕ → Bool
-isDpcHeld w place = cond (eqb (getD w (place + 1) 0) 0) (not (eqb (getD w (place + 3) 0) 0)) true
+isDpcHeld w place = cond (eqb (getD w (place + at.phase) 0) 0) (not (eqb (getD w (place + at.namedBy) 0) 0)) true
 
 unfoldable pub dpcHeld : List ℕ → ℕ → ℕ → ℕ → Bool
 dpcHeld w place address size = cond (dpcStands w place address size) (isDpcHeld w place) false
@@ -66,7 +66,7 @@ timerRelease w address size = cond (eqb (releaseRefusal w address size) 0) answe
 
 -- a timer in the range marked by kind 9, a DPC by phase 9
 unfoldable pub timerMarked : List ℕ → ℕ → ℕ → ℕ → List ℕ
-timerMarked w place address size = cond (timerStands w place address size) (set w (place + 1) 9) w
+timerMarked w place address size = cond (timerStands w place address size) (set w (place + at.kind) 9) w
 
 unfoldable pub timersMarked : List ℕ → ℕ → ℕ → List ℕ
 timersMarked w address size = eachIn (objectCount w) (λ v place. timerMarked v place address size) w (objectsBase w) 0
@@ -77,7 +77,7 @@ timersClosed w =
     set (compacted w (objectsBase w) (objectCount w) 1 9) at.objects (compactedTo w (objectsBase w) (objectCount w) 1 9)
 
 unfoldable pub dpcMarked : List ℕ → ℕ → ℕ → ℕ → List ℕ
-dpcMarked w place address size = cond (dpcStands w place address size) (set w (place + 1) 9) w
+dpcMarked w place address size = cond (dpcStands w place address size) (set w (place + at.phase) 9) w
 
 unfoldable pub dpcsMarked : List ℕ → ℕ → ℕ → List ℕ
 dpcsMarked w address size = eachIn (dpcCount w) (λ v place. dpcMarked v place address size) w (dpcsBase w) 0

@@ -47,7 +47,7 @@ reached w timed deadline = cond timed (leb deadline (getD w at.now 0)) false
 
 -- result 1 is a timeout, 2 + i satisfied by the object at place i
 unfoldable pub withResult : List ℕ → ℕ → ℕ → List ℕ
-withResult w id result = set w (threadAt id + 4) result
+withResult w id result = set w (threadAt id + at.result) result
 
 unfoldable pub left : List ℕ → ℕ → List ℕ
 left w sequence = set (set w at.current 0) at.sequence ((sequence + 1) % 2 ^ 64)

@@ -7,6 +7,7 @@ use mathlib.Core.Path.{_≡_, refl}
 use lib.ListN.{getD}
 use lib.Dec.{eqb, leb}
 use borrow.Author.Tests.{eq-eqb, ne-eqb, leb-true}
+use Rattle.words.specs.Layout as at
 use Rattle.words.specs.Layout.{threadAt}
 use Rattle.chains.specs.Chain.{nextOf}
 use Rattle.chains.specs.Ready.{waitersChain}
@@ -20,9 +21,9 @@ less-one k = omega arith
 
 pub count-most : (w : List ℕ) (id : ℕ) → countOf w id ≤ 64
 unfolding countOf
-count-most w id = go (leb (getD w (threadAt id + 10) 0) 64) refl
+count-most w id = go (leb (getD w (threadAt id + at.waitCount) 0) 64) refl
   where
-    go : (b : Bool) → leb (getD w (threadAt id + 10) 0) 64 ≡ b → cond b (getD w (threadAt id + 10) 0) 64 ≤ 64
+    go : (b : Bool) → leb (getD w (threadAt id + at.waitCount) 0) 64 ≡ b → cond b (getD w (threadAt id + at.waitCount) 0) 64 ≤ 64
     go true e = leb-true _ _ e
     go false e = omega arith
 

@@ -2,6 +2,15 @@
 ghost use mathlib.Core.Path.{_≡_};
 ghost use Rattle.words.specs.Layout.{threadAt, objectsAt, entryAt};
 
+// The header; a thread's record; an object's or a DPC's record; and the largest number of a thread.
+pub const HEADER_SIZE: usize = 256;
+
+pub const THREAD_SIZE: usize = 160;
+
+pub const RECORD_SIZE: usize = 32;
+
+pub const MOST_THREADS: u64 = 256;
+
 // Limits, and how many there are of each.
 pub const THREAD_LIMIT: usize = 0;
 
@@ -87,7 +96,10 @@ pub const WAIT_COUNT: usize = 10;
 
 pub const WAIT_PLACES: usize = 32;
 
-// The link of thread n in its ready queue, or among the waiters, stands 160 n words behind this.
+// The record that thread 0 would have: words of the header that nothing keeps.
+pub const UNUSED: usize = 96;
+
+// The link of thread n in its ready queue, or among the waiters, stands n records behind this.
 pub const READY_LINK: u32 = 96 + NEXT_READY;
 
 pub const WAITERS_LINK: u32 = 96 + NEXT_WAITER;
@@ -175,17 +187,17 @@ pub const ORIGIN_PERIODIC: usize = 20;
 // What a DPC's number becomes when the table is closed up.
 pub const NEW_NUMBER: usize = 21;
 
-// The link of DPC n in the queue stands 32 n words behind the place that is so far before the first DPC.
-pub const QUEUE_LINK_BEFORE: usize = 32 - NEXT_QUEUED;
+// The link of DPC n in the queue stands n records behind the place that is so far before the first DPC.
+pub const QUEUE_LINK_BEFORE: usize = RECORD_SIZE - NEXT_QUEUED;
 
-// Where thread `id` stands; a number past 256 is no thread's, and gets unused words of the header.
+// Where thread `id` stands; a number past the largest is no thread's, and gets unused words of the header.
 pub fn thread_at(id: u64) -> usize
     ensures { λ r. ⌜ r ≡ threadAt id ⌝ }
 {
-    if id <= 256 {
-        96 + 160 * (id as usize)
+    if id <= MOST_THREADS {
+        UNUSED + THREAD_SIZE * (id as usize)
     } else {
-        96
+        UNUSED
     }
 }
 
@@ -193,10 +205,10 @@ pub fn thread_at(id: u64) -> usize
 pub fn objects_at(t: u64) -> usize
     ensures { λ r. ⌜ r ≡ objectsAt t ⌝ }
 {
-    if t <= 256 {
-        256 + 160 * (t as usize)
+    if t <= MOST_THREADS {
+        HEADER_SIZE + THREAD_SIZE * (t as usize)
     } else {
-        256
+        HEADER_SIZE
     }
 }
 
@@ -206,9 +218,9 @@ pub fn entry_at(base: usize, i: u64) -> usize
 {
     if base <= 1_000_000 {
         if i <= 8192 {
-            return base + 32 * (i as usize);
+            return base + RECORD_SIZE * (i as usize);
         }
-        return 96;
+        return UNUSED;
     }
-    96
+    UNUSED
 }

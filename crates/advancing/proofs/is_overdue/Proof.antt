@@ -3,6 +3,7 @@ use mathlib.Core.Path.{_≡_}
 use Prim.Native.Nat.{_+_}
 use lib.ListN.{getD}
 use borrow.Author.Tests.{eq-eqb, ne-eqb}
+use Rattle.words.specs.Layout as at
 use Rattle.words.specs.Layout.{threadAt}
 use Rattle.advancing.specs.Advance.{overdue}
 use borrow.Author.Needs.{needs}
@@ -18,7 +19,7 @@ get-in-requires c κs = search needs
 returns : tie.Need-returns
 unfolding overdue
 returns c =
-    let e : getD (now (c .before .before .before .before .args .w)) (threadAt (c .before .before .before .before .args .id) + 1) 0 ≡ 3 → ⊥ = λ q. c .if1 .taken (cc) in
+    let e : getD (now (c .before .before .before .before .args .w)) (threadAt (c .before .before .before .before .args .id) + at.state) 0 ≡ 3 → ⊥ = λ q. c .if1 .taken (cc) in
     simp (ne-eqb _ _ e)
 
 get-in-requires-2 : tie.Need-get-in-requires-2
@@ -27,8 +28,8 @@ get-in-requires-2 c κs = search needs
 returns-2 : tie.Need-returns-2
 unfolding overdue
 returns-2 c =
-    let e : getD (now (c .before .before .before .before .before .before .args .w)) (threadAt (c .before .before .before .before .before .before .args .id) + 1) 0 ≡ 3 = cc in
-    let f : getD (now (c .before .before .before .before .before .before .args .w)) (threadAt (c .before .before .before .before .before .before .args .id) + 7) 0 ≡ 0 = cc in
+    let e : getD (now (c .before .before .before .before .before .before .args .w)) (threadAt (c .before .before .before .before .before .before .args .id) + at.state) 0 ≡ 3 = cc in
+    let f : getD (now (c .before .before .before .before .before .before .args .w)) (threadAt (c .before .before .before .before .before .before .args .id) + at.hasDeadline) 0 ≡ 0 = cc in
     simp (eq-eqb _ _ e, eq-eqb _ _ f)
 
 get-in-requires-3 : tie.Need-get-in-requires-3
@@ -37,8 +38,8 @@ get-in-requires-3 c κs = search needs
 returns-3 : tie.Need-returns-3
 unfolding overdue
 returns-3 c =
-    let e : getD (now (c .before .before .before .before .before .before .before .args .w)) (threadAt (c .before .before .before .before .before .before .before .args .id) + 1) 0 ≡ 3 = cc in
-    let f : getD (now (c .before .before .before .before .before .before .before .args .w)) (threadAt (c .before .before .before .before .before .before .before .args .id) + 7) 0 ≡ 0 → ⊥ = λ q. c .before .if2 .left (cc) in
+    let e : getD (now (c .before .before .before .before .before .before .before .args .w)) (threadAt (c .before .before .before .before .before .before .before .args .id) + at.state) 0 ≡ 3 = cc in
+    let f : getD (now (c .before .before .before .before .before .before .before .args .w)) (threadAt (c .before .before .before .before .before .before .before .args .id) + at.hasDeadline) 0 ≡ 0 → ⊥ = λ q. c .before .if2 .left (cc) in
     simp (eq-eqb _ _ e, ne-eqb _ _ f) (cc)
 
 pub is-overdue-spec : {M : Type 1} → statement M

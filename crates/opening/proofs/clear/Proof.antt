@@ -3,6 +3,7 @@ use mathlib.Core.Path.{_≡_}
 use native.Mathlib.Omega.{arith}
 use Prim.Native.Nat.{_≤_, _-_}
 use lib.ListN.{length}
+use Rattle.words.specs.Layout as at
 use Rattle.opening.specs.Open.{cleared}
 use Rattle.opening.proofs.OpenLaws.{cleared-none, cleared-next}
 use borrow.Author.Needs.{needs}
@@ -10,10 +11,10 @@ use Rattle.opening.proofs.clear.Statement.{statement}
 use Rattle.opening.proofs.clear.Tie as tie
 
 abbrev Inv-loop : tie.InvT-loop
-Inv-loop w₀ i₀ w i = (i ≤ 96) × (length w ≡ length w₀) × (w ≡ cleared i w₀)
+Inv-loop w₀ i₀ w i = (i ≤ at.unused) × (length w ≡ length w₀) × (w ≡ cleared i w₀)
 
 abbrev μ-loop : tie.MeasureT-loop
-μ-loop w₀ i₀ w i = 96 - i
+μ-loop w₀ i₀ w i = at.unused - i
 
 loop-holds : tie.Need-loop-holds Inv-loop μ-loop
 loop-holds c = (search needs, search needs, cleared-none _)
@@ -34,7 +35,7 @@ same-length : tie.Need-same-length Inv-loop μ-loop
 same-length c = search needs
 
 returns : tie.Need-returns Inv-loop μ-loop
-returns c = let e : c .before .loop .i ≡ 96 = omega arith in cc
+returns c = let e : c .before .loop .i ≡ at.unused = omega arith in cc
 
 pub clear-spec : {M : Type 1} → statement M
 clear-spec =

@@ -3,6 +3,7 @@ use mathlib.Core.Path.{_≡_, _∙_, sym}
 use native.Mathlib.Omega.{arith}
 use Prim.Native.Nat.{_+_, _≤_}
 use lib.ListN.{length}
+use Rattle.words.specs.Layout as at
 use Rattle.threads.proofs.ThreadLaws.{count-small}
 use Rattle.dispatcher.specs.Dispatch.{listedIn, listedToIn, listed, listedTo}
 use Rattle.dispatcher.proofs.DispatchLaws.{listed-none, listed-more, listed-to-none, listed-to-more, noted-most}
@@ -11,7 +12,7 @@ use Rattle.dispatcher.proofs.dispatch.list_waiting.Statement.{statement
 use Rattle.dispatcher.proofs.dispatch.list_waiting.Tie as tie
 
 abbrev Inv-loop : tie.InvT-loop
-Inv-loop w out₀ id₀ k₀ left₀ out id k left = (id + left ≤ 257) × (k + left ≤ 256) × (length out ≡ length out₀) × (listedToIn left w id k ≡ listedTo w) × (listedIn left w out id k ≡ listed w out₀)
+Inv-loop w out₀ id₀ k₀ left₀ out id k left = (id + left ≤ 257) × (k + left ≤ at.mostThreads) × (length out ≡ length out₀) × (listedToIn left w id k ≡ listedTo w) × (listedIn left w out id k ≡ listed w out₀)
 
 abbrev μ-loop : tie.MeasureT-loop
 μ-loop w out₀ id₀ k₀ left₀ out id k left = left

@@ -3,6 +3,7 @@ use mathlib.Core.Path.{_≡_}
 use Prim.Native.Nat.{_+_}
 use lib.ListN.{getD}
 use borrow.Author.Tests.{eq-eqb, ne-eqb}
+use Rattle.words.specs.Layout as at
 use Rattle.dpcs.specs.Record.{numberOf, placeAt}
 use Rattle.expiry.specs.Check.{countedAfter}
 use borrow.Author.Needs.{needs}
@@ -30,14 +31,14 @@ wrapping-add-u64-requires c κs = search needs
 
 returns-2 : tie.Need-returns-2
 unfolding countedAfter
-returns-2 c = let e : getD (now (c .before .before .before .before .before .before .before .before .args .w)) (placeAt (now (c .before .before .before .before .before .before .before .before .args .w)) (numberOf (now (c .before .before .before .before .before .before .before .before .args .w)) (c .before .before .before .before .before .before .get-in .result)) + 1) 0 ≡ 0 = cc in simp (← (c .before .before .before .before .before .before .get-in .ensures), ne-eqb _ _ (c .before .before .before .before .before .if1 .left), eq-eqb _ _ e) (cc)
+returns-2 c = let e : getD (now (c .before .before .before .before .before .before .before .before .args .w)) (placeAt (now (c .before .before .before .before .before .before .before .before .args .w)) (numberOf (now (c .before .before .before .before .before .before .before .before .args .w)) (c .before .before .before .before .before .before .get-in .result)) + at.phase) 0 ≡ 0 = cc in simp (← (c .before .before .before .before .before .before .get-in .ensures), ne-eqb _ _ (c .before .before .before .before .before .if1 .left), eq-eqb _ _ e) (cc)
 
 wrapping-add-u64-requires-2 : tie.Need-wrapping-add-u64-requires-2
 wrapping-add-u64-requires-2 c κs = search needs
 
 returns-3 : tie.Need-returns-3
 unfolding countedAfter
-returns-3 c = let e : getD (now (c .before .before .before .before .before .before .before .before .args .w)) (placeAt (now (c .before .before .before .before .before .before .before .before .args .w)) (numberOf (now (c .before .before .before .before .before .before .before .before .args .w)) (c .before .before .before .before .before .before .get-in .result)) + 1) 0 ≡ 0 → ⊥ = λ q. c .before .if2 .left (cc) in simp (← (c .before .before .before .before .before .before .get-in .ensures), ne-eqb _ _ (c .before .before .before .before .before .if1 .left), ne-eqb _ _ e) (cc)
+returns-3 c = let e : getD (now (c .before .before .before .before .before .before .before .before .args .w)) (placeAt (now (c .before .before .before .before .before .before .before .before .args .w)) (numberOf (now (c .before .before .before .before .before .before .before .before .args .w)) (c .before .before .before .before .before .before .get-in .result)) + at.phase) 0 ≡ 0 → ⊥ = λ q. c .before .if2 .left (cc) in simp (← (c .before .before .before .before .before .before .get-in .ensures), ne-eqb _ _ (c .before .before .before .before .before .if1 .left), ne-eqb _ _ e) (cc)
 
 pub count-after-spec : {M : Type 1} → statement M
 count-after-spec =
