@@ -13,8 +13,8 @@ use Rattle.calls.specs.Called.{called}
 use Rattle.calls.specs.Run.{left}
 use Rattle.model.specs.Reads.{blank}
 use Rattle.agreement_lengths.proofs.Lengths.{cond-same, words-cond}
-use Rattle.agreement_lengths.proofs.Kernel as kernel
-use Rattle.agreement_lengths.proofs.Sync as sync
+use Rattle.agreement_lengths.proofs.Threading as kernel
+use Rattle.agreement_lengths.proofs.Mutexes as sync
 use Rattle.agreement_lengths.proofs.Dispatcher as dispatcher
 use Rattle.agreement_lengths.proofs.Timers as timers
 use Rattle.agreement_lengths.proofs.Dpc as dpc

@@ -2,8 +2,8 @@ pub mod Lengths
 pub mod Threads
 pub mod Waits
 pub mod Objects
-pub mod Kernel
-pub mod Sync
+pub mod Threading
+pub mod Mutexes
 pub mod Dpcs
 pub mod Dpc
 pub mod Expiry

@@ -9,10 +9,10 @@ use lib.Dec.{eqb, ltb, leb}
 use lib.ListN.{getD, set, length, length-set, length-append}
 use Rattle.words.specs.Layout as at
 use Rattle.words.specs.Layout.{entryAt}
-use Rattle.tables.specs.Compact as tables
+use Rattle.tables.specs.Compact.{moved}
 use Rattle.tables.proofs.TableLaws.{entry-is}
 use Rattle.objects.specs.Objects.{objectsBase, objectCount}
-use Rattle.event_release.specs.Release.{isEvent, isRetired, copiedIn, copied, moved, retiredIn, retired}
+use Rattle.event_release.specs.Release.{isEvent, isRetired, retiredIn, retired}
 use Rattle.model.specs.Lists.{keep}
 use Rattle.model.proofs.TableLaws.{none-some}
 use Rattle.agreement_tables.specs.Tables.{Same, Whole, Local, Holds}
@@ -20,33 +20,16 @@ use Rattle.agreement_tables.proofs.Moves.{read-other, read-same, set-ou
 use Rattle.agreement_tables.proofs.Holds.{holds-depends, holds-head, holds-tail}
 use Rattle.agreement_tables.proofs.Compacts.{length-moved, moved-outside, moved-last, moved-rest}
 
--- ---- a record is moved as in the other tables
-
-copied-same : (m : ℕ) (w : List ℕ) (from to k : ℕ) → copiedIn m w from to k ≡ tables.copiedIn m w from to k
-unfolding copiedIn tables.copiedIn
-copied-same zero w from to k = refl
-copied-same (suc m) w from to k = copied-same m (set w (to + k) (getD w (from + k) 0)) from to (k + 1)
-
-moved-same : (w : List ℕ) (base i j : ℕ) → moved w base i j ≡ tables.moved w base i j
-unfolding moved copied tables.moved tables.copied
-moved-same w base i j = ap (λ (v : List ℕ). cond (eqb i j) w v) (copied-same 32 w (entryAt base i) (entryAt base j) 0)
-
 -- ---- the walk
 
-retired-more : (m : ℕ) (w : List ℕ) (base i j lo hi : ℕ) → retiredIn (suc m) w base i j lo hi
-    ≡ cond (isRetired w (entryAt base i) lo hi) (retiredIn m w base (i + 1) j lo hi) (retiredIn m (tables.moved w base i j) base (i + 1) (j + 1) lo hi)
-unfolding retiredIn
-retired-more m w base i j lo hi =
-    ap (λ (v : List ℕ). cond (isRetired w (entryAt base i) lo hi) (retiredIn m w base (i + 1) j lo hi) (retiredIn m v base (i + 1) (j + 1) lo hi)) (moved-same w base i j)
-
-length-retired-in : (m : ℕ) (w : List ℕ) (base i j lo hi : ℕ) → length (retiredIn m w base i j lo hi) ≡ length w
+pub length-retired-in : (m : ℕ) (w : List ℕ) (base i j lo hi : ℕ) → length (retiredIn m w base i j lo hi) ≡ length w
 unfolding retiredIn
 length-retired-in zero w base i j lo hi = length-set w 4 j
-length-retired-in (suc m) w base i j lo hi = ap length (retired-more m w base i j lo hi)
-    ∙ go (isRetired w (entryAt base i) lo hi) (length-retired-in m w base (i + 1) j lo hi) (length-retired-in m (tables.moved w base i j) base (i + 1) (j + 1) lo hi)
+length-retired-in (suc m) w base i j lo hi =
+    go (isRetired w (entryAt base i) lo hi) (length-retired-in m w base (i + 1) j lo hi) (length-retired-in m (moved w base i j) base (i + 1) (j + 1) lo hi)
   where
-    go : (b : Bool) → length (retiredIn m w base (i + 1) j lo hi) ≡ length w → length (retiredIn m (tables.moved w base i j) base (i + 1) (j + 1) lo hi) ≡ length (tables.moved w base i j)
-        → length (cond b (retiredIn m w base (i + 1) j lo hi) (retiredIn m (tables.moved w base i j) base (i + 1) (j + 1) lo hi)) ≡ length w
+    go : (b : Bool) → length (retiredIn m w base (i + 1) j lo hi) ≡ length w → length (retiredIn m (moved w base i j) base (i + 1) (j + 1) lo hi) ≡ length (moved w base i j)
+        → length (cond b (retiredIn m w base (i + 1) j lo hi) (retiredIn m (moved w base i j) base (i + 1) (j + 1) lo hi)) ≡ length w
     go true p q = p
     go false p q = q ∙ length-moved w base i j
 
@@ -54,13 +37,13 @@ retired-in-outside : (m : ℕ) (R : ℕ → Type 0) (w : List ℕ) (base i j lo 
     → Same R w (retiredIn m w base i j lo hi)
 unfolding retiredIn
 retired-in-outside zero R w base i j lo hi low few down four far p r = set-outside R w 4 j four p r
-retired-in-outside (suc m) R w base i j lo hi low few down four far p r = ap (λ (v : List ℕ). getD v p 0) (retired-more m w base i j lo hi)
-    ∙ go (isRetired w (entryAt base i) lo hi) (λ w₁ j₁ l. retired-in-outside m R w₁ base (i + 1) j₁ lo hi low (omega arith) l four (λ q a b. far q a (omega arith)) p r)
+retired-in-outside (suc m) R w base i j lo hi low few down four far p r =
+    go (isRetired w (entryAt base i) lo hi) (λ w₁ j₁ l. retired-in-outside m R w₁ base (i + 1) j₁ lo hi low (omega arith) l four (λ q a b. far q a (omega arith)) p r)
   where
     go : (b : Bool) → ((w₁ : List ℕ) (j₁ : ℕ) → j₁ ≤ i + 1 → getD (retiredIn m w₁ base (i + 1) j₁ lo hi) p 0 ≡ getD w₁ p 0)
-        → getD (cond b (retiredIn m w base (i + 1) j lo hi) (retiredIn m (tables.moved w base i j) base (i + 1) (j + 1) lo hi)) p 0 ≡ getD w p 0
+        → getD (cond b (retiredIn m w base (i + 1) j lo hi) (retiredIn m (moved w base i j) base (i + 1) (j + 1) lo hi)) p 0 ≡ getD w p 0
     go true ih = ih w j (omega arith)
-    go false ih = ih (tables.moved w base i j) (j + 1) (omega arith) ∙ moved-outside w base i j low (omega arith) down R (λ q a b. far q (omega arith) (omega arith)) p r
+    go false ih = ih (moved w base i j) (j + 1) (omega arith) ∙ moved-outside w base i j low (omega arith) down R (λ q a b. far q (omega arith) (omega arith)) p r
 
 -- ---- against the log's list, of which those that pass the test `f` stay
 
@@ -87,8 +70,7 @@ module _ {A : Type 0} (D : ℕ → Type 0) (P : List ℕ → ℕ → A → Type 
       )
   retire (y ∷ ys) w i zs down few long done left goes =
       subst (λ (v : List ℕ). Holds P v base (zs ++ keep f (y ∷ ys)) × (getD v at.objects 0 ≡ length (zs ++ keep f (y ∷ ys))))
-      (sym (retired-more (length ys) w base i (length zs) lo hi
-      ∙ ap (λ (b : Bool). cond b (retiredIn (length ys) w base (i + 1) (length zs) lo hi) (retiredIn (length ys) (tables.moved w base i (length zs)) base (i + 1) (length zs + 1) lo hi))
+      (sym (ap (λ (b : Bool). cond b (retiredIn (length ys) w base (i + 1) (length zs) lo hi) (retiredIn (length ys) (moved w base i (length zs)) base (i + 1) (length zs + 1) lo hi))
       (ap (λ (p : ℕ). isRetired w p lo hi) (entry-is base i low (omega arith)) ∙ holds-head Whole (Goes f lo hi) (goes-local f lo hi) w (base + 32 * i) y ys goes)))
       (go (f y) (λ w₁. retire ys w₁ (i + 1)))
     where
@@ -105,8 +87,8 @@ module _ {A : Type 0} (D : ℕ → Type 0) (P : List ℕ → ℕ → A → Type 
           → ((w₁ : List ℕ) (zs : List A) → length zs ≤ i + 1 → i + 1 + length ys ≤ 8192 → base + 32 * (i + 1 + length ys) ≤ length w₁
           → Holds P w₁ base zs → Holds P w₁ (base + 32 * (i + 1)) ys → Holds (Goes f lo hi) w₁ (base + 32 * (i + 1)) ys
           → Holds P (retiredIn (length ys) w₁ base (i + 1) (length zs) lo hi) base (zs ++ keep f ys) × (getD (retiredIn (length ys) w₁ base (i + 1) (length zs) lo hi) at.objects 0 ≡ length (zs ++ keep f ys)))
-          → Holds P (cond (not b) (retiredIn (length ys) w base (i + 1) (length zs) lo hi) (retiredIn (length ys) (tables.moved w base i (length zs)) base (i + 1) (length zs + 1) lo hi)) base (zs ++ cond b (y ∷ keep f ys) (keep f ys))
-          × (getD (cond (not b) (retiredIn (length ys) w base (i + 1) (length zs) lo hi) (retiredIn (length ys) (tables.moved w base i (length zs)) base (i + 1) (length zs + 1) lo hi)) 4 0
+          → Holds P (cond (not b) (retiredIn (length ys) w base (i + 1) (length zs) lo hi) (retiredIn (length ys) (moved w base i (length zs)) base (i + 1) (length zs + 1) lo hi)) base (zs ++ cond b (y ∷ keep f ys) (keep f ys))
+          × (getD (cond (not b) (retiredIn (length ys) w base (i + 1) (length zs) lo hi) (retiredIn (length ys) (moved w base i (length zs)) base (i + 1) (length zs + 1) lo hi)) 4 0
           ≡ length (zs ++ cond b (y ∷ keep f ys) (keep f ys)))
       go false ih = ih w zs (omega arith) (omega arith) (omega arith) done rest rest-goes
       go true ih =
@@ -120,7 +102,7 @@ module _ {A : Type 0} (D : ℕ → Type 0) (P : List ℕ → ℕ → A → Type 
           (moved-rest Whole (Goes f lo hi) (goes-local f lo hi) w base i low (omega arith) (length zs) ys down rest-goes)))
         where
           w₁ : List ℕ
-          w₁ = tables.moved w base i (length zs)
+          w₁ = moved w base i (length zs)
 
           size : length (zs ++ (y ∷ [])) ≡ length zs + 1
           size = length-append zs (y ∷ [])

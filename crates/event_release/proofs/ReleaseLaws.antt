@@ -9,7 +9,8 @@ use lib.Dec.{eqb, ltb}
 use borrow.Author.Tests.{ltb-false}
 use Rattle.words.specs.Layout as at
 use Rattle.words.specs.Layout.{entryAt}
-use Rattle.event_release.specs.Release.{isEvent, isNth, passedTo, nthIn, isHeld, heldIn, anyHeld, largest, releaseRefusal, isRetired, copiedIn, moved, kept, keptTo, retiredIn}
+use Rattle.tables.specs.Compact.{moved}
+use Rattle.event_release.specs.Release.{isEvent, isNth, passedTo, nthIn, isHeld, heldIn, anyHeld, largest, releaseRefusal, isRetired, kept, keptTo, retiredIn}
 
 less-one : (k : ℕ) → suc k - 1 ≡ k
 less-one k = omega arith
@@ -54,17 +55,6 @@ pub held-more : (m : ℕ) (w : List ℕ) (base i lo hi span : ℕ) → 0 < m →
 unfolding heldIn
 held-more zero w base i lo hi span h e = absurd (omega arith)
 held-more (suc m) w base i lo hi span h e = simp (e, less-one m)
-
-pub copied-none : (m : ℕ) (w : List ℕ) (from to k : ℕ) → m ≤ 0 → copiedIn m w from to k ≡ w
-unfolding copiedIn
-copied-none zero w from to k h = refl
-copied-none (suc m) w from to k h = absurd (omega arith)
-
-pub copied-more : (m : ℕ) (w : List ℕ) (from to k : ℕ) → 0 < m
-    → copiedIn m w from to k ≡ copiedIn (m - 1) (set w (to + k) (getD w (from + k) 0)) from to (k + 1)
-unfolding copiedIn
-copied-more zero w from to k h = absurd (omega arith)
-copied-more (suc m) w from to k h = simp (less-one m)
 
 pub kept-most : (w : List ℕ) (base i j lo hi : ℕ) → keptTo w base i j lo hi ≤ j + 1
 unfolding keptTo

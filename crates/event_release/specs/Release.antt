@@ -6,6 +6,7 @@ use lib.ListN.{getD, set}
 use lib.Dec.{eqb, leb, ltb}
 use Rattle.words.specs.Layout as at
 use Rattle.words.specs.Layout.{entryAt}
+use Rattle.tables.specs.Compact.{moved}
 use Rattle.objects.specs.Objects.{objectsBase, objectCount}
 use Rattle.wakes.specs.Wake.{waitsOn}
 use Rattle.answers.specs.declared.Answer.{Answer}
@@ -77,18 +78,6 @@ releaseAnswer w base size span = cond (eqb (releaseRefusal w base size span) 0) 
 -- an event whose key is from `lo` on and below `hi`
 unfoldable pub isRetired : List ℕ → ℕ → ℕ → ℕ → Bool
 isRetired w place lo hi = cond (isEvent w place) (cond (ltb (getD w (place + at.key) 0) lo) false (ltb (getD w (place + at.key) 0) hi)) false
-
--- `m` words from word `k` on of the record at place `from` copied to the one at place `to`, the first first
-unfoldable pub copiedIn : ℕ → List ℕ → ℕ → ℕ → ℕ → List ℕ
-copiedIn zero w from to k = w
-copiedIn (suc m) w from to k = copiedIn m (set w (to + k) (getD w (from + k) 0)) from to (k + 1)
-
-unfoldable pub copied : List ℕ → ℕ → ℕ → List ℕ
-copied w from to = copiedIn 32 w from to 0
-
--- record `i` as record `j`
-unfoldable pub moved : List ℕ → ℕ → ℕ → ℕ → List ℕ
-moved w base i j = cond (eqb i j) w (copied w (entryAt base i) (entryAt base j))
 
 -- a record that is not retired moved to `j`, and where the next one goes
 unfoldable pub kept : List ℕ → ℕ → ℕ → ℕ → ℕ → ℕ → List ℕ

@@ -2,7 +2,7 @@
 ghost use mathlib.Core.Path.{_≡_};
 ghost use Prim.Native.Nat.{_≤_};
 ghost use Rattle.answers.specs.Outcome.{outcome};
-ghost use Rattle.event_release.specs.Release.{isEvent, isNth, passedTo, nthEvent, eventStates, keyHeld, isHeld, anyHeld, releaseRefusal, releaseAnswer, isRetired, copied, moved, kept, keptTo, retired, eventsRetired};
+ghost use Rattle.event_release.specs.Release.{isEvent, isNth, passedTo, nthEvent, eventStates, keyHeld, isHeld, anyHeld, releaseRefusal, releaseAnswer, isRetired, kept, keptTo, retired, eventsRetired};
 use answers::Answer;
 use words::layout;
 
@@ -154,29 +154,6 @@ fn is_retired(w: &[u64], at: usize, lo: u64, hi: u64) -> bool
     false
 }
 
-// The record at place `from` copied to place `to`, the first word first.
-fn copy(w: &mut [u64], from: usize, to: usize)
-    ensures { λ r. ⌜ now (w .exit) ≡ copied (now (w .entry)) from to ⌝ }
-{
-    let mut k: usize = 0;
-    let mut left: usize = 32;
-    while 0 < left {
-        let word = words::get_in(w, from, k);
-        words::put_in(w, to, k, word);
-        k += 1;
-        left -= 1;
-    }
-}
-
-fn move_down(w: &mut [u64], base: usize, i: u64, j: u64)
-    ensures { λ r. ⌜ now (w .exit) ≡ moved (now (w .entry)) base i j ⌝ }
-{
-    if i == j {
-        return;
-    }
-    copy(w, layout::entry_at(base, i), layout::entry_at(base, j));
-}
-
 // Record `i`, unless it is retired, becomes record `j`. Answers the place of the next that stays.
 fn keep(w: &mut [u64], base: usize, i: u64, j: u64, lo: u64, hi: u64) -> u64
     requires { ⌜ j ≤ 4096 ⌝ }
@@ -185,7 +162,7 @@ fn keep(w: &mut [u64], base: usize, i: u64, j: u64, lo: u64, hi: u64) -> u64
     if is_retired(w, layout::entry_at(base, i), lo, hi) {
         return j;
     }
-    move_down(w, base, i, j);
+    tables::move_down(w, base, i, j);
     j + 1
 }
 

@@ -110,7 +110,8 @@ fn copy(w: &mut [u64], from: usize, to: usize)
     }
 }
 
-fn move_down(w: &mut [u64], base: usize, i: u64, j: u64)
+// Record `i` as record `j`.
+pub fn move_down(w: &mut [u64], base: usize, i: u64, j: u64)
     ensures { λ r. ⌜ now (w .exit) ≡ moved (now (w .entry)) base i j ⌝ }
 {
     if i == j {

@@ -1,13 +1,14 @@
 -- The calls on mutexes and events: as many words.
-use Prim.Native.Nat.{ℕ, zero, suc, _+_}
+use Prim.Native.Nat.{ℕ}
 use mathlib.Core.List.{List}
 use mathlib.Core.Bool.{Bool}
-use mathlib.Core.Path.{_≡_, refl, _∙_}
-use lib.ListN.{getD, set, length, length-set}
+use mathlib.Core.Path.{_≡_}
+use lib.ListN.{length, length-set}
 use Rattle.objects.specs.Objects.{objectsBase, objectCount}
 use Rattle.mutexes.specs.Mutexes as mutexes
 use Rattle.events.specs.Events as events
-use Rattle.event_release.specs.Release.{copiedIn, copied, moved, retiredIn, retired, eventsRetired}
+use Rattle.event_release.specs.Release.{retired, eventsRetired}
+use Rattle.agreement_tables.proofs.Retired.{length-retired-in}
 use Rattle.agreement_lengths.proofs.Lengths.{length-cond, cond-same, words-cond}
 use Rattle.agreement_lengths.proofs.Objects.{length-entered}
 use Rattle.agreement_lengths.proofs.Waits.{length-awake}
@@ -45,21 +46,6 @@ unfolding events.wasReset
 length-was-reset w key = simp (words-cond, cond-same, length-set)
 
 -- ---- events taken out
-
-length-copied-in : (m : ℕ) (w : List ℕ) (from to k : ℕ) → length (copiedIn m w from to k) ≡ length w
-unfolding copiedIn
-length-copied-in zero w from to k = refl
-length-copied-in (suc m) w from to k = length-copied-in m (set w (to + k) (getD w (from + k) 0)) from to (k + 1) ∙ length-set w (to + k) (getD w (from + k) 0)
-
-length-moved : (w : List ℕ) (base i j : ℕ) → length (moved w base i j) ≡ length w
-unfolding moved copied
-length-moved w base i j = simp (length-cond, cond-same, length-copied-in 32)
-
-length-retired-in : (m : ℕ) (w : List ℕ) (base i j lo hi : ℕ) → length (retiredIn m w base i j lo hi) ≡ length w
-unfolding retiredIn
-length-retired-in zero w base i j lo hi = simp length-set
-length-retired-in (suc m) w base i j lo hi =
-    simp (length-cond, cond-same, length-retired-in m w base (i + 1) j lo hi, length-retired-in m (moved w base i j) base (i + 1) (j + 1) lo hi, length-moved)
 
 pub length-retired : (w : List ℕ) (lo hi : ℕ) → length (retired w lo hi) ≡ length w
 unfolding retired
