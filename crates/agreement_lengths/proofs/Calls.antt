@@ -13,8 +13,8 @@ use Rattle.calls.specs.Called.{called}
 use Rattle.calls.specs.Run.{left}
 use Rattle.model.specs.Reads.{blank}
 use Rattle.agreement_lengths.proofs.Lengths.{cond-same, words-cond}
-use Rattle.agreement_lengths.proofs.Threading as kernel
-use Rattle.agreement_lengths.proofs.Mutexes as sync
+use Rattle.agreement_lengths.proofs.Threading as threading
+use Rattle.agreement_lengths.proofs.Mutexes as mutexes
 use Rattle.agreement_lengths.proofs.Dispatcher as dispatcher
 use Rattle.agreement_lengths.proofs.Timers as timers
 use Rattle.agreement_lengths.proofs.Dpc as dpc
@@ -37,22 +37,22 @@ length-guarded-start w s e = simp (dpc.started-cond, e, cond-same)
 
 pub keeps-length : (w : List ℕ) (c : Call) → length (left w c) ≡ length w
 unfolding called
-keeps-length w (call.Open words p t o d) = kernel.length-opened w p t o d
-keeps-length w (call.CreateThread p) = length-guarded w _ (kernel.length-created w p)
-keeps-length w (call.Priority id p) = length-guarded w _ (kernel.length-prioritized w id p)
-keeps-length w (call.InitializeMutex key) = length-guarded w _ (sync.length-mutex-initialized w key)
-keeps-length w (call.InitializeEvent key manual signaled) = length-guarded w _ (sync.length-event-initialized w key manual signaled)
-keeps-length w (call.AdoptMutex key none) = length-guarded w _ (sync.length-adopted w key _ 0)
-keeps-length w (call.AdoptMutex key (some owner)) = length-guarded w _ (sync.length-adopted w key _ owner)
-keeps-length w (call.ReleaseMutex key) = length-guarded w _ (sync.length-released w key)
-keeps-length w (call.SetEvent key) = length-guarded w _ (sync.length-was-set w key)
-keeps-length w (call.ResetEvent key) = length-guarded w _ (sync.length-was-reset w key)
-keeps-length w (call.RetireEventBacking base size layout) = length-guarded w _ (sync.length-events-retired w base size layout)
+keeps-length w (call.Open words p t o d) = threading.length-opened w p t o d
+keeps-length w (call.CreateThread p) = length-guarded w _ (threading.length-created w p)
+keeps-length w (call.Priority id p) = length-guarded w _ (threading.length-prioritized w id p)
+keeps-length w (call.InitializeMutex key) = length-guarded w _ (mutexes.length-mutex-initialized w key)
+keeps-length w (call.InitializeEvent key manual signaled) = length-guarded w _ (mutexes.length-event-initialized w key manual signaled)
+keeps-length w (call.AdoptMutex key none) = length-guarded w _ (mutexes.length-adopted w key _ 0)
+keeps-length w (call.AdoptMutex key (some owner)) = length-guarded w _ (mutexes.length-adopted w key _ owner)
+keeps-length w (call.ReleaseMutex key) = length-guarded w _ (mutexes.length-released w key)
+keeps-length w (call.SetEvent key) = length-guarded w _ (mutexes.length-was-set w key)
+keeps-length w (call.ResetEvent key) = length-guarded w _ (mutexes.length-was-reset w key)
+keeps-length w (call.RetireEventBacking base size layout) = length-guarded w _ (mutexes.length-events-retired w base size layout)
 keeps-length w (call.Wait l all none irql) = length-guarded w _ (dispatcher.length-waited w l all _ 0 irql)
 keeps-length w (call.Wait l all (some deadline) irql) = length-guarded w _ (dispatcher.length-waited w l all _ deadline irql)
 keeps-length w (call.DelayUntil deadline irql) = length-guarded w _ (dispatcher.length-delayed w deadline irql)
-keeps-length w call.YieldCurrent = length-guarded w _ (kernel.length-yielded w)
-keeps-length w (call.Terminate status) = length-guarded w _ (kernel.length-terminated w status)
+keeps-length w call.YieldCurrent = length-guarded w _ (threading.length-yielded w)
+keeps-length w (call.Terminate status) = length-guarded w _ (threading.length-terminated w status)
 keeps-length w (call.AdvanceTo t) = length-guarded w _ (dispatcher.length-advanced w t)
 keeps-length w (call.Dispatch n) = length-guarded-dispatch w (blank n)
 keeps-length w (call.InitializeTimer address a b manual) = length-guarded w _ (timers.length-timer-initialized w address a b manual)
