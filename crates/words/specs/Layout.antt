@@ -129,19 +129,19 @@ abbrev pub status : ℕ
 status = 5
 
 abbrev pub waitAll : ℕ
-waitAll = 6
+waitAll = 7
 
 abbrev pub hasDeadline : ℕ
-hasDeadline = 7
+hasDeadline = 8
 
 abbrev pub deadline : ℕ
-deadline = 8
+deadline = 9
 
 abbrev pub waitSequence : ℕ
-waitSequence = 9
+waitSequence = 10
 
 abbrev pub waitCount : ℕ
-waitCount = 10
+waitCount = 11
 
 abbrev pub waitPlaces : ℕ
 waitPlaces = 32

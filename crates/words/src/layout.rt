@@ -84,15 +84,15 @@ pub const RESULT: usize = 4;
 
 pub const STATUS: usize = 5;
 
-pub const WAIT_ALL: usize = 6;
+pub const WAIT_ALL: usize = 7;
 
-pub const HAS_DEADLINE: usize = 7;
+pub const HAS_DEADLINE: usize = 8;
 
-pub const DEADLINE: usize = 8;
+pub const DEADLINE: usize = 9;
 
-pub const WAIT_SEQUENCE: usize = 9;
+pub const WAIT_SEQUENCE: usize = 10;
 
-pub const WAIT_COUNT: usize = 10;
+pub const WAIT_COUNT: usize = 11;
 
 pub const WAIT_PLACES: usize = 32;
 

@@ -39,11 +39,11 @@ pub const NEXT_READY: usize = 2;
 pub const NEXT_WAITER: usize = 3;
 pub const RESULT: usize = 4;
 pub const STATUS: usize = 5;
-pub const ALL: usize = 6;
-pub const TIMED: usize = 7;
-pub const DEADLINE: usize = 8;
-pub const WAIT_SEQUENCE: usize = 9;
-pub const COUNT: usize = 10;
+pub const ALL: usize = 7;
+pub const TIMED: usize = 8;
+pub const DEADLINE: usize = 9;
+pub const WAIT_SEQUENCE: usize = 10;
+pub const COUNT: usize = 11;
 pub const PLACES: usize = 32;
 
 pub const OBJECT_WORDS: usize = 32;

@@ -4,7 +4,7 @@ use crate::random::Random;
 use crate::scheduler::Limits;
 use crate::scheduler::state::State;
 use crate::scheduler::words::{
-    ACCEPTED, DPC_USED, DPC_WORDS, HEADER, OBJECT_WORDS, PLACES, REMOVED, RESTORED, RETURNED,
+    ACCEPTED, COUNT, DPC_USED, DPC_WORDS, HEADER, OBJECT_WORDS, PLACES, REMOVED, RESTORED, RETURNED,
     STARTED, THREAD_WORDS, TIMER_USED, dpc_at, object_at, thread_at,
 };
 
@@ -51,7 +51,7 @@ fn place(random: &Random, state: &State, limits: Limits) -> usize {
     match random.below(24) {
         0..=2 => below(HEADER),
         3..=5 => below(26),
-        6..=8 => thread_at(1 + random.below(threads)) + below(11),
+        6..=8 => thread_at(1 + random.below(threads)) + below(COUNT + 1),
         9 => thread_at(1 + random.below(threads)) + PLACES + below(8),
         10 => thread_at(1 + random.below(threads)) + below(THREAD_WORDS),
         11..=15 if objects > 0 => object_at(limits, random.below(objects)) + below(TIMER_USED),
