@@ -13,8 +13,8 @@ use Rattle.words.specs.Layout as at
 use Rattle.threads.specs.Thread.{putThread, putWait, noWait}
 use Rattle.chains.specs.declared.Chain.{Chain}
 use Rattle.opening.specs.Open.{badPriority, badLimits, wordsNeeded, openRefusal, cleared, limited, started}
-use Rattle.model.specs.State.{Limits, Counters, Thread, running, unselected}
-use Rattle.model.specs.Threads.{threadAt}
+use Rattle.model.specs.State.{Limits, Counters, unselected}
+use Rattle.model.specs.Threads.{threadAt, firstThread}
 use Rattle.model.specs.Step.{opened}
 use Rattle.model.specs.Valid.{LimitsValid}
 use Rattle.model.proofs.TableLaws.{none-some, some-same}
@@ -111,12 +111,9 @@ unfolding noWait
 wait-in-form = record { of-all = omega arith; of-timed = omega arith; few = omega arith; kinds = λ k h. absurd (omega arith) }
 
 abbrev limitStores : ℕ → ℕ → ℕ → List Store
-limitStores t o d = store 0 t ∷ store 1 o ∷ store 2 d ∷ store 3 1 ∷ store 6 1 ∷ []
+limitStores t o d = store at.threadLimit t ∷ store at.objectLimit o ∷ store at.dpcLimit d ∷ store at.threads 1 ∷ store at.current 1 ∷ []
 
 module _ (w : List ℕ) (p t o d : ℕ) (h : Accepted w p t o d) where
-  abbrev one-thread : Thread
-  one-thread = record { priority = p; status = running; result = none }
-
   abbrev w₀ : List ℕ
   w₀ = cleared at.unused w
 
@@ -127,7 +124,7 @@ module _ (w : List ℕ) (p t o d : ℕ) (h : Accepted w p t o d) where
   w₂ = putWait w₁ 1 noWait
 
   abbrev w₃ : List ℕ
-  w₃ = putThread w₂ 1 (storedOf one-thread)
+  w₃ = putThread w₂ 1 (storedOf (firstThread p))
 
   long : 416 ≤ length w
   long = omega (arith, h .enough, h .limits .some-thread)
@@ -139,11 +136,11 @@ module _ (w : List ℕ) (p t o d : ℕ) (h : Accepted w p t o d) where
   len₂ = length-wait w₁ 1 noWait (omega arith) ∙ len₁
 
   len₃ : length w₃ ≡ length w
-  len₃ = length-thread w₂ 1 (storedOf one-thread) (omega arith) ∙ len₂
+  len₃ = length-thread w₂ 1 (storedOf (firstThread p)) (omega arith) ∙ len₂
 
-  -- the first 96 words are not of the thread
+  -- the words before `unused` are not of the thread
   front : Same (λ j. j < at.unused) w₁ w₃
-  front j l = thread-writes w₂ 1 (storedOf one-thread) (omega arith) j (λ k. omega (arith, k .here))
+  front j l = thread-writes w₂ 1 (storedOf (firstThread p)) (omega arith) j (λ k. omega (arith, k .here))
       ∙ wait-writes w₁ 1 noWait (omega arith) (wait-in-form .few) j (λ k. omega (arith, k .here))
 
   -- the words of limits, counts and the current thread aside they are 0
@@ -166,22 +163,22 @@ module _ (w : List ℕ) (p t o d : ℕ) (h : Accepted w p t o d) where
     enough = subst (λ (m : ℕ). at.headerSize + at.threadSize * t + 32 * (o + d) ≤ m) (sym len₃) (h .enough);
     numbers = numbers;
     threads = λ i a b. let e : i ≡ 1 = omega arith in
-        subst (λ (j : ℕ). Row w₃ (at.threadFrom j) (threadRow (threadAt (one-thread ∷ []) j))) (sym e) (thread-shows w₂ 1 one-thread (omega arith) (omega (arith, len₂, long)));
+        subst (λ (j : ℕ). Row w₃ (at.threadFrom j) (threadRow (threadAt (firstThread p ∷ []) j))) (sym e) (thread-shows w₂ 1 (firstThread p) (omega arith) (omega (arith, len₂, long)));
     waits = record {
       kept = λ i a b. let e : i ≡ 1 = omega arith in subst (WaitKept w₃) (sym e)
-          (kept-depends w₂ w₃ 1 (λ j f. thread-writes w₂ 1 (storedOf one-thread) (omega arith) j (λ k. omega (arith, k .here, k .has .small, f .here, f .has .from)))
+          (kept-depends w₂ w₃ 1 (λ j f. thread-writes w₂ 1 (storedOf (firstThread p)) (omega arith) j (λ k. omega (arith, k .here, k .has .small, f .here, f .has .from)))
           (kept-shows w₁ 1 noWait (omega arith) (omega (arith, len₁, long)) (wait-in-form .few) wait-in-form));
-      current = λ i a b. let e : i ≡ 1 = omega arith in subst (λ (j : ℕ). WaitOf w₃ j (threadAt (one-thread ∷ []) j .status)) (sym e) tt;
+      current = λ i a b. let e : i ≡ 1 = omega arith in subst (λ (j : ℕ). WaitOf w₃ j (threadAt (firstThread p ∷ []) j .status)) (sym e) tt;
     };
     queues = ready-none w₃ (empty 9 (omega arith) (omega arith)) (λ q b. (empty (32 + q) (omega arith) (omega arith), empty (64 + q) (omega arith) (omega arith)));
     waiters = subst (λ (c : Chain). Holds w₃ c []) (sym waiters-chain)
-        (holds-none w₃ (record { first = at.waitersFirst; last = at.waitersLast; link = at.waitersLink; stride = at.threadSize }) (empty 21 (omega arith) (omega arith)) (empty 22 (omega arith) (omega arith)));
+        (holds-none w₃ (record { first = at.waitersFirst; last = at.waitersLast; link = at.waitersLink; stride = at.threadSize }) (empty at.waitersFirst (omega arith) (omega arith)) (empty at.waitersLast (omega arith) (omega arith)));
     objects = λ i x e. absurd (none-some x e);
     dpcs = λ i x e. absurd (none-some x e);
-    work = holds-none w₃ (queueFrom (at.headerSize + at.threadSize * t + 32 * o)) (empty 23 (omega arith) (omega arith)) (empty 24 (omega arith) (omega arith));
+    work = holds-none w₃ (queueFrom (at.headerSize + at.threadSize * t + 32 * o)) (empty at.queueFirst (omega arith) (omega arith)) (empty at.queueLast (omega arith) (omega arith));
     shape = record {
       sizes = record { limits = h .limits; threads-fit = h .limits .some-thread; objects-fit = zero-le; dpcs-fit = zero-le };
-      fit = λ i a b. let e : i ≡ 1 = omega arith in subst (λ (j : ℕ). ThreadFits (threadAt (one-thread ∷ []) j)) (sym e) (record { one = h .one; small = h .small; wait = tt });
+      fit = λ i a b. let e : i ≡ 1 = omega arith in subst (λ (j : ℕ). ThreadFits (threadAt (firstThread p ∷ []) j)) (sym e) (record { one = h .one; small = h .small; wait = tt });
       ready-standing = record { within = λ i m. absurd m; once = tt };
       waiting-standing = record { within = λ i m. absurd m; once = tt };
       rising = tt;

@@ -14,7 +14,7 @@ use Rattle.wakes.specs.Wake.{madeReady}
 use Rattle.threading.specs.Thread.{yieldedWords}
 use Rattle.model.specs.Lists.{Mem, without}
 use Rattle.model.specs.State.{State, Dispatcher, Thread, running, ready, WaitResult}
-use Rattle.model.specs.Threads.{threadOf, statusOf, priorityOf, changeAt, withThread, becomes, yielded}
+use Rattle.model.specs.Threads.{threadOf, statusOf, priorityOf, changeAt, withThread, withStatus, readyAgain, becomes, yielded}
 use Rattle.model.specs.Step.{withDispatcher}
 use Rattle.model.proofs.ListLaws.{without-absent}
 use Rattle.model.proofs.ThreadLaws.{length-change, change-own}
@@ -25,14 +25,10 @@ use Rattle.agreement.proofs.Threads.{storedOf, sim-thread}
 use Rattle.agreement.proofs.Lookups.{thread-is}
 use Rattle.agreement.proofs.Chains.{withPlaced, sim-place}
 
--- the thread in the log
-abbrev pub readyThread : Dispatcher → ℕ → Option WaitResult → Thread
-readyThread d id r = record { priority = priorityOf d id; status = ready; result = r }
-
 module _ (w : List ℕ) (s : State) (holder : ℕ → ℕ) (active : ℕ) (a : Agreeing w s holder active) where
   pub sim-ready : (id : ℕ) (r : Option WaitResult) → 1 ≤ id → id ≤ length (s .dispatcher .threads) → exitStatus (statusOf (s .dispatcher) id) ≡ 0 → (Mem id (s .dispatcher .placed) → ⊥)
       → Agreeing (madeReady w id (resultNumber r))
-      (withDispatcher s (withPlaced (withThread (s .dispatcher) id (readyThread (s .dispatcher) id r)) (s .dispatcher .placed ++ (id ∷ [])))) holder active
+      (withDispatcher s (withPlaced (withThread (s .dispatcher) id (readyAgain (threadOf (s .dispatcher) id) r)) (s .dispatcher .placed ++ (id ∷ [])))) holder active
   unfolding madeReady
   sim-ready id r one le live absent =
       subst (λ (x : stored.Thread). Agreeing (placedLast (words.putThread w id (record { priority = x .priority; state = 2; result = resultNumber r; status = x .status })) (x .priority) id) after holder active)
@@ -43,23 +39,23 @@ module _ (w : List ℕ) (s : State) (holder : ℕ → ℕ) (active : ℕ) (a : A
       (sim-place (words.putThread w id (storedOf t)) s₁ holder active b id one (subst (λ (m : ℕ). id ≤ m) (sym (length-change (s .dispatcher .threads) id t)) le) absent)))
     where
       t : Thread
-      t = readyThread (s .dispatcher) id r
+      t = readyAgain (threadOf (s .dispatcher) id) r
 
       s₁ : State
       s₁ = withDispatcher s (withThread (s .dispatcher) id t)
 
       after : State
-      after = withDispatcher s (withPlaced (withThread (s .dispatcher) id (readyThread (s .dispatcher) id r)) (s .dispatcher .placed ++ (id ∷ [])))
+      after = withDispatcher s (withPlaced (withThread (s .dispatcher) id (readyAgain (threadOf (s .dispatcher) id) r)) (s .dispatcher .placed ++ (id ∷ [])))
 
       b : Agreeing (words.putThread w id (storedOf t)) s₁ holder active
       b = sim-thread w s holder active a id t one le
           (record { one = a .shape .fit id one le .one; small = a .shape .fit id one le .small; wait = tt }) (λ m. refl) tt
 
 -- what `becomes` says of a thread that becomes ready and stood in no list
-pub becomes-ready : (d : Dispatcher) (id p : ℕ) (r : Option WaitResult) → (Mem id (d .placed) → ⊥) → (Mem id (d .waiters) → ⊥)
-    → becomes d id (record { priority = p; status = ready; result = r })
+pub becomes-ready : (d : Dispatcher) (id : ℕ) (t : Thread) → (Mem id (d .placed) → ⊥) → (Mem id (d .waiters) → ⊥)
+    → becomes d id (withStatus t ready)
     ≡ record {
-      threads = changeAt (d .threads) id (record { priority = p; status = ready; result = r });
+      threads = changeAt (d .threads) id (withStatus t ready);
       current = cond (eqb (d .current) id) 0 (d .current);
       placed = d .placed ++ (id ∷ []);
       waiters = d .waiters;
@@ -67,12 +63,12 @@ pub becomes-ready : (d : Dispatcher) (id p : ℕ) (r : Option WaitResult) → (M
       objects = d .objects;
     }
 unfolding becomes
-becomes-ready d id p r unplaced unblocked =
+becomes-ready d id t unplaced unblocked =
     ap (λ (l : List ℕ). step l (without id (d .waiters))) (without-absent id (d .placed) unplaced) ∙ ap (step (d .placed)) (without-absent id (d .waiters) unblocked)
   where
     step : List ℕ → List ℕ → Dispatcher
     step placed waiters = record {
-      threads = changeAt (d .threads) id (record { priority = p; status = ready; result = r });
+      threads = changeAt (d .threads) id (withStatus t ready);
       current = cond (eqb (d .current) id) 0 (d .current);
       placed = placed ++ (id ∷ []);
       waiters = waiters;
@@ -98,8 +94,8 @@ module _ (w : List ℕ) (s : State) (holder : ℕ → ℕ) (active : ℕ) (a : A
       (subst (λ (d : Dispatcher). Agreeing (madeReady (set w 6 0) id (resultNumber result)) (withDispatcher s d) holder active) (sym same)
       (sim-ready (set w 6 0) (withDispatcher s (withCurrent (s .dispatcher) 0)) holder active (sim-current w s holder active a 0) id result one le (ap exitStatus runs) unplaced))
     where
-      same : yielded (s .dispatcher) ≡ withPlaced (withThread (withCurrent (s .dispatcher) 0) id (readyThread (s .dispatcher) id result)) (s .dispatcher .placed ++ (id ∷ []))
+      same : yielded (s .dispatcher) ≡ withPlaced (withThread (withCurrent (s .dispatcher) 0) id (readyAgain (threadOf (s .dispatcher) id) result)) (s .dispatcher .placed ++ (id ∷ []))
       same =
-          becomes-ready (s .dispatcher) id (priorityOf (s .dispatcher) id) result unplaced unblocked
-          ∙ ap (λ (b : Bool). record { threads = changeAt (s .dispatcher .threads) id (readyThread (s .dispatcher) id result); current = cond b 0 id; placed = s .dispatcher .placed ++ (id ∷ []); waiters = s .dispatcher .waiters; sequence = s .dispatcher .sequence; objects = s .dispatcher .objects })
+          becomes-ready (s .dispatcher) id (threadOf (s .dispatcher) id) unplaced unblocked
+          ∙ ap (λ (b : Bool). record { threads = changeAt (s .dispatcher .threads) id (readyAgain (threadOf (s .dispatcher) id) result); current = cond b 0 id; placed = s .dispatcher .placed ++ (id ∷ []); waiters = s .dispatcher .waiters; sequence = s .dispatcher .sequence; objects = s .dispatcher .objects })
           (eq-eqb id id refl)

@@ -14,10 +14,10 @@ use Rattle.dispatcher.specs.declared.read.PlaceAnswer.{PlaceAnswer}
 use Rattle.dispatcher.specs.declared.read.PlaceAnswer.the-variants as object
 use Rattle.dispatcher.specs.Read.{viewOf, threadRead, threadsAt, waitedObject}
 use Rattle.call_answers.specs.Told.{toldObject}
-use Rattle.calls.specs.Run.{namedBy, objectsRead, statusRead, resultRead, toldThread}
+use Rattle.calls.specs.Run.{namedBy, objectsRead, statusRead, resultRead, viewRead, toldThread}
 use Rattle.model.specs.Lists.{nth, given}
 use Rattle.model.specs.State.{State, Thread, Status, running, ready, waiting, exited, Wait, WaitResult, satisfied, timeout, Named}
-use Rattle.model.specs.Threads.{threadOf, statusOf, isThread}
+use Rattle.model.specs.Threads.{threadOf, statusOf, isThread, withStatus, withPriority, withResult}
 use Rattle.model.specs.Waits.{noObject}
 use Rattle.model.specs.Answer.{Answer, None, ObjectIs, ThreadIs}
 use Rattle.model.specs.Answer as log
@@ -119,7 +119,7 @@ module _ (w : List ℕ) (s : State) (a : Agree w s) where
           let t = threadOf (s .dispatcher) id in
           let h : ViewIs v id t = r .1 in
           ap (toldThread w) (r .0)
-          ∙ ap (λ (x : Status). ThreadIs (v .id) (record { priority = v .priority; status = x; result = resultRead (v .result) }))
+          ∙ ap (λ (x : Status). ThreadIs (v .id) (withStatus (viewRead w v) x))
           (status-read w v (t .status) (h .of-state) (h .of-status)
           (λ y q. (
             h .of-wait y q,
@@ -127,8 +127,8 @@ module _ (w : List ℕ) (s : State) (a : Agree w s) where
                 (λ k n f. sym (object-told (waitedObject w id (0 + k))) ∙ ap objectOf (waited-is w s a id (0 + k) y e q)
                 ∙ ap (λ (j : ℕ). objectOf (given (nth (y .objects) j) None ObjectIs)) (let z : 0 + k ≡ k = omega arith in z) ∙ ap (λ (o : Option Named). objectOf (given o None ObjectIs)) f),
           )))
-          ∙ ap (λ (p : ℕ). ThreadIs (v .id) (record { priority = p; status = t .status; result = resultRead (v .result) })) (h .of-priority)
-          ∙ ap (λ (x : Option WaitResult). ThreadIs (v .id) (record { priority = t .priority; status = t .status; result = x })) (ap resultRead (h .of-result) ∙ result-read (t .result))
+          ∙ ap (λ (p : ℕ). ThreadIs (v .id) (withPriority (withStatus (viewRead w v) (t .status)) p)) (h .of-priority)
+          ∙ ap (λ (x : Option WaitResult). ThreadIs (v .id) (withResult t x)) (ap resultRead (h .of-result) ∙ result-read (t .result))
           ∙ ap (λ (k : ℕ). ThreadIs k t) (h .of-id)
 
   pub read-thread : (id : ℕ) → toldThread w (threadRead w id) ≡ step (call.Reads (call.Thread id)) s .answer

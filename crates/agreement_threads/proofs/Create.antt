@@ -17,7 +17,7 @@ use Rattle.threads.specs.Thread.{putThread, putWait, noWait}
 use Rattle.chains.specs.Ready.{placedLast}
 use Rattle.model.specs.Lists.{Mem, without}
 use Rattle.model.specs.State.{State, Dispatcher, Thread}
-use Rattle.model.specs.Threads.{becomes, created, count, withNew}
+use Rattle.model.specs.Threads.{becomes, created, count, withNew, newThread}
 use Rattle.model.specs.Valid.{Valid}
 use Rattle.model.specs.Refusal.{createRefusal, notPriority}
 use Rattle.model.specs.Call as call
@@ -32,7 +32,7 @@ use Rattle.agreement.proofs.Headers.{threads-few}
 use Rattle.agreement.proofs.Threads.{storedOf}
 use Rattle.agreement.proofs.Chains.{withPlaced, sim-place}
 use Rattle.agreement.proofs.Matches.{plainly-unless}
-use Rattle.agreement_threads.proofs.New.{newThread, sim-new}
+use Rattle.agreement_threads.proofs.New.{sim-new}
 
 -- a priority that is none of the refused
 pub priority-range : (p : ℕ) → notPriority p ≡ false → (1 ≤ p) × (p ≤ 31)

@@ -1,15 +1,15 @@
 -- One thread more: its record and its empty wait written behind the others, on the words and in the log.
 use Prim.Native.Nat.{ℕ, suc, _+_, _*_, _≤_, _<_}
 use mathlib.Core.List.{List, [], _∷_, _++_}
-use mathlib.Core.Option.{none, some}
+use mathlib.Core.Option.{some}
 use mathlib.Core.Path.{_≡_, sym, ap, _∙_, subst}
 use native.Mathlib.Omega.{arith}
 use native.Mathlib.Decide.{ℕ-discrete}
 use lib.ListN.{getD, set, length, length-set}
 use Rattle.words.specs.Layout as at
 use Rattle.threads.specs.Thread.{putThread, putWait, noWait}
-use Rattle.model.specs.State.{State, Thread, ready}
-use Rattle.model.specs.Threads.{threadAt, withNew}
+use Rattle.model.specs.State.{State, Thread}
+use Rattle.model.specs.Threads.{threadAt, withNew, newThread}
 use Rattle.model.specs.Step.{withDispatcher}
 use Rattle.model.proofs.ThreadLaws.{append-old, append-new, append-length}
 use Rattle.agreement_chains.specs.Chains.{Standing, Same}
@@ -31,10 +31,6 @@ use Rattle.agreement.proofs.Waits.{InForm, kept-shows, wait-writes}
 pub no-wait-form : InForm noWait
 unfolding noWait
 no-wait-form = record { of-all = omega arith; of-timed = omega arith; few = omega arith; kinds = λ k h. absurd (omega arith) }
-
--- a thread that is ready for the first time
-abbrev pub newThread : ℕ → Thread
-newThread p = record { priority = p; status = ready; result = none }
 
 module _ (w : List ℕ) (s : State) (holder : ℕ → ℕ) (active : ℕ) (a : Agreeing w s holder active) (p : ℕ) (one : 1 ≤ p) (small : p ≤ 31)
     (room : length (s .dispatcher .threads) < s .limits .threads) where

@@ -2,7 +2,7 @@
 use Prim.Native.Nat.{ℕ, _+_, _-_, _%_, _^_, _≤_, _<_}
 use mathlib.Core.List.{List, [], _∷_, _++_}
 use mathlib.Core.Bool.{Bool, cond}
-use mathlib.Core.Option.{Option, none}
+use mathlib.Core.Option.{Option}
 use mathlib.Core.Path.{_≡_, refl, sym, ap, _∙_, subst}
 use native.Mathlib.Omega.{arith}
 use borrow.Author.Tests.{eq-eqb}
@@ -16,7 +16,7 @@ use Rattle.chains.specs.Ready.{waitersChain}
 use Rattle.waiting.specs.Wait.{left, parked, blockedWords}
 use Rattle.model.specs.Lists.{Mem, without}
 use Rattle.model.specs.State.{State, Dispatcher, Thread, running, waiting, Wait, Named}
-use Rattle.model.specs.Threads.{becomes, blocked, changeAt, statusOf, priorityOf, isWaiting, withThread, withSequence}
+use Rattle.model.specs.Threads.{becomes, blocked, changeAt, threadOf, statusOf, priorityOf, isWaiting, withThread, withSequence, waitingThread}
 use Rattle.model.specs.Step.{withDispatcher}
 use Rattle.model.proofs.ListLaws.{without-absent}
 use Rattle.model.proofs.ThreadLaws.{length-change}
@@ -33,13 +33,10 @@ use Rattle.agreement.proofs.Chains.{withWaiters, sim-block}
 abbrev pub newWait : Dispatcher → List Named → Bool → Option ℕ → Wait
 newWait d objects all deadline = record { objects = objects; all = all; deadline = deadline; sequence = d .sequence }
 
-abbrev pub waitingThread : Dispatcher → List Named → Bool → Option ℕ → Thread
-waitingThread d objects all deadline = record { priority = priorityOf d (d .current); status = waiting (newWait d objects all deadline); result = none }
-
 -- what `blocked` says of a current thread that stands in no list
 pub blocked-is : (d : Dispatcher) (objects : List Named) (all : Bool) (deadline : Option ℕ) → (Mem (d .current) (d .placed) → ⊥) → (Mem (d .current) (d .waiters) → ⊥)
     → blocked d objects all deadline
-    ≡ withWaiters (withThread (withSequence (withCurrent d 0) (d .sequence + 1)) (d .current) (waitingThread d objects all deadline)) (d .waiters ++ (d .current ∷ []))
+    ≡ withWaiters (withThread (withSequence (withCurrent d 0) (d .sequence + 1)) (d .current) (waitingThread (threadOf d (d .current)) (newWait d objects all deadline))) (d .waiters ++ (d .current ∷ []))
 unfolding blocked becomes
 blocked-is d objects all deadline unplaced unblocked =
     ap (λ (b : Bool). step (cond b 0 (d .current)) (without (d .current) (d .placed)) (without (d .current) (d .waiters))) (eq-eqb (d .current) (d .current) refl)
@@ -48,7 +45,7 @@ blocked-is d objects all deadline unplaced unblocked =
   where
     step : ℕ → List ℕ → List ℕ → Dispatcher
     step current placed waiters = record {
-      threads = changeAt (d .threads) (d .current) (waitingThread d objects all deadline);
+      threads = changeAt (d .threads) (d .current) (waitingThread (threadOf d (d .current)) (newWait d objects all deadline));
       current = current;
       placed = placed;
       waiters = waiters ++ (d .current ∷ []);
@@ -83,7 +80,7 @@ module _ (w : List ℕ) (s : State) (holder : ℕ → ℕ) (active : ℕ) (a : A
   module _ (y : stored-wait.Wait) (objects : List Named) (all : Bool) (deadline : Option ℕ) (of : Stored y (newWait (s .dispatcher) objects all deadline)) (form : InForm y)
       (fits : WaitFits (newWait (s .dispatcher) objects all deadline)) where
     abbrev t : Thread
-    t = waitingThread (s .dispatcher) objects all deadline
+    t = waitingThread (threadOf (s .dispatcher) (s .dispatcher .current)) (newWait (s .dispatcher) objects all deadline)
 
     abbrev w₃ : List ℕ
     w₃ = putWait w₂ c y

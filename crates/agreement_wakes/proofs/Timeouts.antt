@@ -14,7 +14,7 @@ use Rattle.wakes.specs.Wake.{madeReady}
 use Rattle.advancing.specs.Advance.{overdue, expired, expiredIn, expiredAll}
 use Rattle.model.specs.Lists.{Mem}
 use Rattle.model.specs.State.{State, Dispatcher, Thread, Status, running, ready, waiting, exited, Wait, timeout}
-use Rattle.model.specs.Threads.{noOne, threadAt, threadOf, statusOf, isWaiting, waitOf, becomes, woken, numbersOf}
+use Rattle.model.specs.Threads.{noOne, threadAt, threadOf, statusOf, isWaiting, waitOf, readyAgain, becomes, woken, numbersOf}
 use Rattle.model.specs.Waits.{reached, isOverdue, timeOutEach, timeOut}
 use Rattle.model.specs.Valid.{Standing}
 use Rattle.model.specs.Step.{withDispatcher}
@@ -24,7 +24,6 @@ use Rattle.agreement.specs.Records.{statusNumber, timed}
 use Rattle.agreement.specs.Agree.{Agreeing}
 use Rattle.agreement.proofs.Lookups.{thread-count-is, thread-word-is, timed-is, deadline-is}
 use Rattle.agreement.proofs.Chains.{sim-unblock}
-use Rattle.agreement.proofs.Ready.{readyThread}
 use Rattle.agreement_wakes.proofs.Woken.{Blocked, is-blocked, blocked-still, woken-waiters, woken-count, sim-woken}
 
 -- ---- who is overdue
@@ -80,7 +79,7 @@ left-next d n t ts l = record {
 
 other-status : (d : Dispatcher) (x i : ℕ) → (i ≡ x → ⊥) → threadAt (woken d x timeout .threads) i ≡ threadAt (d .threads) i
 unfolding woken becomes
-other-status d x i ne = change-other (d .threads) x (readyThread d x (some timeout)) i ne
+other-status d x i ne = change-other (d .threads) x (readyAgain (threadOf d x) (some timeout)) i ne
 
 left-woken : (d : Dispatcher) (n : ℕ) (ts : List Thread) → Blocked d n → Left d (suc n) ts → Left (woken d n timeout) (suc n) ts
 left-woken d n ts b l = record {

@@ -8,8 +8,8 @@ use mathlib.Core.Path.{_≡_, refl, sym, ap, _∙_}
 use native.Mathlib.Decide.{ℕ-discrete}
 use lib.ListN.{getD}
 use Rattle.model.specs.Lists.{Mem, nth, any, given}
-use Rattle.model.specs.State.{Limits, Dispatcher, Thread, ready, waiting, Wait, satisfied, Named, Event, Object, mutex, event, timer}
-use Rattle.model.specs.Threads.{count, threadOf, statusOf, priorityOf, hasExited, isWaiting, waitOf, withObjects, becomes, woken}
+use Rattle.model.specs.State.{Limits, Dispatcher, Thread, waiting, Wait, satisfied, Named, Event, Object, mutex, event, timer}
+use Rattle.model.specs.Threads.{count, threadOf, statusOf, hasExited, isWaiting, waitOf, withObjects, readyAgain, becomes, woken}
 use Rattle.model.specs.Waits.{keyOf, objectAt, namedIn, putObject, takenBy, take, takeEvery, takes, isAvailable, everyAvailable, firstAvailable, noObject, index, canWake, wakeOne, pass}
 use Rattle.model.specs.Valid.{Sound}
 use Rattle.model.proofs.ListLaws.{not-both}
@@ -27,7 +27,7 @@ unfolding wakeOne woken becomes
 one-thread d x i n = go (canWake d (waitOf (statusOf d x)))
   where
     go : (b : Bool) → threadOf (cond b (granted d x (waitOf (statusOf d x))) d) i ≡ threadOf d i
-    go true = change-other (d .threads) x (record { priority = priorityOf d x; status = ready; result = some (satisfied (index d (waitOf (statusOf d x) .objects) (waitOf (statusOf d x) .all))) }) i n
+    go true = change-other (d .threads) x (readyAgain (threadOf d x) (some (satisfied (index d (waitOf (statusOf d x) .objects) (waitOf (statusOf d x) .all))))) i n
     go false = refl
 
 pub pass-thread : (xs : List ℕ) (d : Dispatcher) (i : ℕ) → (Mem i xs → ⊥) → threadOf (pass d xs) i ≡ threadOf d i
@@ -41,7 +41,7 @@ module _ (lim : Limits) (d : Dispatcher) (s : Sound lim d) (y : ℕ) (x : Wait) 
   l = takes d y (x .objects) (x .all)
 
   abbrev t : Thread
-  t = record { priority = priorityOf d y; status = ready; result = some (satisfied (index d (x .objects) (x .all))) }
+  t = readyAgain (threadOf d y) (some (satisfied (index d (x .objects) (x .all))))
 
   range : (1 ≤ y) × (y ≤ count d)
   range = stands-somewhere (d .threads) y isWaiting refl (ap isWaiting e)

@@ -11,7 +11,7 @@ use lib.ListN.{length}
 use Rattle.wakes.specs.Wake.{madeReady}
 use Rattle.model.specs.Lists.{Mem, without}
 use Rattle.model.specs.State.{State, Dispatcher, Thread, Status, running, ready, waiting, exited, Wait, WaitResult}
-use Rattle.model.specs.Threads.{statusOf, isReady, isWaiting, isRunning, changeAt, withThread, becomes, woken}
+use Rattle.model.specs.Threads.{threadOf, statusOf, isReady, isWaiting, isRunning, changeAt, withThread, readyAgain, becomes, woken}
 use Rattle.model.specs.Valid.{Standing}
 use Rattle.model.specs.Step.{withDispatcher}
 use Rattle.model.proofs.ListLaws.{not-both, mem-member, mem-last, without-absent}
@@ -19,7 +19,7 @@ use Rattle.model.proofs.ThreadLaws.{change-other, length-change, stands-somewhe
 use Rattle.agreement.specs.Records.{resultNumber, exitStatus}
 use Rattle.agreement.specs.Agree.{Agreeing}
 use Rattle.agreement.proofs.Chains.{withPlaced, withWaiters}
-use Rattle.agreement.proofs.Ready.{readyThread, sim-ready}
+use Rattle.agreement.proofs.Ready.{sim-ready}
 
 -- ---- what is asked of a thread that is woken
 
@@ -50,7 +50,7 @@ is-blocked d st i e =
 
 -- who is woken leaves the waiters and is placed last; nobody else moves
 pub woken-is : (d : Dispatcher) (id : ℕ) (r : WaitResult) → Blocked d id
-    → woken d id r ≡ withPlaced (withThread (withWaiters d (without id (d .waiters))) id (readyThread d id (some r))) (d .placed ++ (id ∷ []))
+    → woken d id r ≡ withPlaced (withThread (withWaiters d (without id (d .waiters))) id (readyAgain (threadOf d id) (some r))) (d .placed ++ (id ∷ []))
 unfolding woken becomes
 woken-is d id r b =
     ap (λ (l : List ℕ). moved l (cond (eqb (d .current) id) 0 (d .current))) (without-absent id (d .placed) (b .unplaced))
@@ -58,7 +58,7 @@ woken-is d id r b =
   where
     moved : List ℕ → ℕ → Dispatcher
     moved placed current = record {
-      threads = changeAt (d .threads) id (readyThread d id (some r));
+      threads = changeAt (d .threads) id (readyAgain (threadOf d id) (some r));
       current = current;
       placed = placed ++ (id ∷ []);
       waiters = without id (d .waiters);
@@ -70,7 +70,7 @@ woken-is d id r b =
 pub blocked-still : (d : Dispatcher) (id : ℕ) (r : WaitResult) → Blocked d id → (i : ℕ) → (i ≡ id → ⊥) → Blocked d i → Blocked (woken d id r) i
 blocked-still d id r b i ne c = subst (λ (e : Dispatcher). Blocked e i) (sym (woken-is d id r b)) (record {
   for = c .for;
-  waits = ap (λ (t : Thread). t .status) (change-other (d .threads) id (readyThread d id (some r)) i ne) ∙ c .waits;
+  waits = ap (λ (t : Thread). t .status) (change-other (d .threads) id (readyAgain (threadOf d id) (some r)) i ne) ∙ c .waits;
   unplaced = λ m. ⊎-elim (λ (q : Mem i (d .placed)). c .unplaced q) (λ (q : i ≡ id). ne q) (mem-last i (d .placed) id m);
   idle = c .idle;
 })
@@ -81,7 +81,7 @@ woken-waiters d id r = refl
 
 pub woken-count : (d : Dispatcher) (id : ℕ) (r : WaitResult) → length (woken d id r .threads) ≡ length (d .threads)
 unfolding woken becomes
-woken-count d id r = length-change (d .threads) id (readyThread d id (some r))
+woken-count d id r = length-change (d .threads) id (readyAgain (threadOf d id) (some r))
 
 -- ---- the words
 

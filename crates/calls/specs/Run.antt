@@ -52,9 +52,13 @@ resultRead zero = none
 resultRead (suc zero) = some timeout
 resultRead (suc (suc i)) = some (satisfied i)
 
+-- the thread that a view shows
+abbrev pub viewRead : List ℕ → ThreadView → state.Thread
+viewRead w v = record { priority = v .priority; status = statusRead w v; result = resultRead (v .result) }
+
 abbrev pub toldThread : List ℕ → ThreadAnswer → Answer
 toldThread w (thread.Refused n) = Refused n
-toldThread w (thread.Thread v) = ThreadIs (v .id) (record { priority = v .priority; status = statusRead w v; result = resultRead (v .result) })
+toldThread w (thread.Thread v) = ThreadIs (v .id) (viewRead w v)
 toldThread w thread.None = None
 
 -- ---- an image: its size, with the output after the call

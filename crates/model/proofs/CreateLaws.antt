@@ -3,15 +3,14 @@ use Prim.Native.Nat.{ℕ, suc, _≤_, _<_}
 use mathlib.Core.List.{List, [], _∷_, _++_}
 use mathlib.Core.Bool.{Bool, true, false, cond}
 use mathlib.Core.Path.{_≡_, refl, sym, ap, _∙_, subst}
-use mathlib.Core.Option.{none}
 use native.Mathlib.Omega.{arith}
 use native.Mathlib.Decide.{ℕ-discrete}
 use lib.Dec.{eqb}
 use lib.ListN.{length}
 use lib.Seq.{set-append-seam}
 use Rattle.model.specs.Lists.{given}
-use Rattle.model.specs.State.{Limits, Dispatcher, Thread, ready, Named, Object, mutex, event, timer}
-use Rattle.model.specs.Threads.{count, threadAt, statusOf, isThread, isLive, hasExited, waitOf, becomes, created}
+use Rattle.model.specs.State.{Limits, Dispatcher, Thread, Named, Object, mutex, event, timer}
+use Rattle.model.specs.Threads.{count, threadAt, statusOf, isThread, isLive, hasExited, waitOf, newThread, becomes, created}
 use Rattle.model.specs.Waits.{namedIn, isFree, isAvailable, canWake, reached}
 use Rattle.model.specs.Valid.{OwnerLive, WaitingValid, Sound, Quiet, InTime}
 use Rattle.model.proofs.ListLaws.{not-both}
@@ -20,22 +19,19 @@ use Rattle.model.proofs.ObjectLaws.{wake-falls}
 use Rattle.model.proofs.SoundLaws.{waits-on, exists-on, thread-is, is-thread, is-live, live-is}
 
 module _ (d : Dispatcher) (p : ℕ) where
-  abbrev new : Thread
-  new = record { priority = p; status = ready; result = none }
-
   -- the threads after it: those before, and the new one
-  pub created-threads : created d p .threads ≡ d .threads ++ (new ∷ [])
+  pub created-threads : created d p .threads ≡ d .threads ++ (newThread p ∷ [])
   unfolding created becomes
-  created-threads = set-append-seam (d .threads) new [] new
+  created-threads = set-append-seam (d .threads) (newThread p) [] (newThread p)
 
   pub created-count : count (created d p) ≡ suc (count d)
-  created-count = ap length created-threads ∙ append-length (d .threads) new
+  created-count = ap length created-threads ∙ append-length (d .threads) (newThread p)
 
-  created-either : (P : Thread → Type 0) (i : ℕ) → P new → P (threadAt (d .threads) i) → P (threadAt (created d p .threads) i)
-  created-either P i a b = subst (λ (l : List Thread). P (threadAt l i)) (sym created-threads) (append-either P (d .threads) new i a b)
+  created-either : (P : Thread → Type 0) (i : ℕ) → P (newThread p) → P (threadAt (d .threads) i) → P (threadAt (created d p .threads) i)
+  created-either P i a b = subst (λ (l : List Thread). P (threadAt l i)) (sym created-threads) (append-either P (d .threads) (newThread p) i a b)
 
   pub created-old : (i : ℕ) → i ≤ count d → threadAt (created d p .threads) i ≡ threadAt (d .threads) i
-  created-old i h = ap (λ (l : List Thread). threadAt l i) created-threads ∙ append-old (d .threads) new i h
+  created-old i h = ap (λ (l : List Thread). threadAt l i) created-threads ∙ append-old (d .threads) (newThread p) i h
 
   created-objects : created d p .objects ≡ d .objects
   unfolding created becomes
@@ -49,7 +45,7 @@ module _ (d : Dispatcher) (p : ℕ) where
           let k = thread-is (created d p) (n .key) q in
           elim (ℕ-discrete (n .key) (suc (count d))) [
             | yes y ↦ absurd (not-both (sym z ∙ ap (λ (x : Thread). hasExited (x .status))
-                (ap (threadAt (created d p .threads)) y ∙ ap (λ (l : List Thread). threadAt l (suc (count d))) created-threads ∙ append-new (d .threads) new)))
+                (ap (threadAt (created d p .threads)) y ∙ ap (λ (l : List Thread). threadAt l (suc (count d))) created-threads ∙ append-new (d .threads) (newThread p))))
             | no y ↦ let h : n .key ≤ count d = omega (arith, k .1, created-count, y) in
                 ap (λ (b : Bool). cond b (hasExited (statusOf d (n .key))) false) (is-thread d (n .key) (k .0) h)
                 ∙ ap (λ (x : Thread). hasExited (x .status)) (sym (created-old (n .key) h)) ∙ z
@@ -86,10 +82,10 @@ module _ (d : Dispatcher) (p : ℕ) where
     some = omega (arith, created-count);
     few = omega (arith, created-count);
     priorities = λ i a b. elim (ℕ-discrete i (suc (count d))) [
-      | yes e ↦ subst (λ (x : Thread). (1 ≤ x .priority) × (x .priority ≤ 31)) (sym (ap (threadAt (created d p .threads)) e ∙ ap (λ (l : List Thread). threadAt l (suc (count d))) created-threads ∙ append-new (d .threads) new)) hp
+      | yes e ↦ subst (λ (x : Thread). (1 ≤ x .priority) × (x .priority ≤ 31)) (sym (ap (threadAt (created d p .threads)) e ∙ ap (λ (l : List Thread). threadAt l (suc (count d))) created-threads ∙ append-new (d .threads) (newThread p))) hp
       | no n ↦ let h : i ≤ count d = omega (arith, b, created-count, n) in subst (λ (x : Thread). (1 ≤ x .priority) × (x .priority ≤ 31)) (sym (created-old i h)) (s .priorities i a h)
     ];
-    standing = standing-new (d .threads) (d .placed) (d .waiters) (d .current) (d .sequence) new refl (s .standing);
+    standing = standing-new (d .threads) (d .placed) (d .waiters) (d .current) (d .sequence) (newThread p) refl (s .standing);
     waits = λ i. created-either (λ (x : Thread). WaitingValid (created d p) (x .status)) i tt
         (waits-on d (created d p) (statusOf d i) (λ n m e. exists-on d (created d p) (omega (arith, created-count)) refl n e) (s .waits i));
     owners = λ k x e. owner-created x (s .owners k x e);

@@ -19,7 +19,7 @@ use Rattle.images.specs.declared.DpcPhase.the-variants.{Idle, Queued, Running, 
 use Rattle.model.specs.Lists.{Mem, any, keep, isEmpty, given}
 use Rattle.model.specs.Table.{Rising}
 use Rattle.model.specs.State.{State, Dispatcher, Dpcs, Thread, Status, running, ready, waiting, exited, Wait, WaitResult, satisfied, timeout, Named, Mutex, Event, Object, mutex, event, timer, Policy, unselected, cpu0Dispatch}
-use Rattle.model.specs.Threads.{threadAt, threadOf, statusOf, priorityOf, isReady, waitOf, withThread, withObjects, withSequence, withStatus, withPriority, withResult, becomes, created, prioritized, yielded, terminated, woken, blocked, next, ran, numbersOf}
+use Rattle.model.specs.Threads.{threadAt, threadOf, statusOf, priorityOf, isReady, waitOf, withThread, withObjects, withSequence, withStatus, withPriority, withResult, firstThread, newThread, readyAgain, becomes, created, prioritized, yielded, terminated, woken, blocked, next, ran, numbersOf}
 use Rattle.model.specs.Waits.{keyOf, objectAt, timerAt, mutexAt, eventAt, putObject, ownedBy, signaledAs, isAvailable, firstAvailable, isMet, index, take, takeEvery, takes, takenBy, namedIn, noObject, canWake, wakeOne, pass, wake, reached, isOverdue, timeOutEach, timeOut}
 use Rattle.model.specs.Dpcs.{addressOf, dpcAt, phaseAt, putDpc, rephased, inPhase, isBusy, isQueued, workOf, newWork, accepted, duplicated, withdrawn, started, returned, restored}
 use Rattle.model.specs.Timers.{newTimer, armed, cancelled, retimed, expired, isPeriodic, nextDue, dueTimers, Expired, expireOne, expireEach, dpcsAfter, workQueued, originOf}
@@ -58,7 +58,7 @@ fit-with d id t a f i = change-either Fit (d .threads) id t i f (a i)
 
 fit-woken : (d : Dispatcher) (id : ℕ) (r : WaitResult) → AllFit (d .threads) → ResultFits (some r) → AllFit (woken d id r .threads)
 unfolding woken
-fit-woken d id r a f = fit-becomes d id (record { priority = priorityOf d id; status = ready; result = some r }) a ((f, tt), omega arith)
+fit-woken d id r a f = fit-becomes d id (readyAgain (threadOf d id) (some r)) a ((f, tt), omega arith)
 
 -- ---- timers
 
@@ -222,7 +222,7 @@ pub numbers-opened : (p t o d : ℕ) → Numbers (opened p t o d)
 unfolding opened
 numbers-opened p t o d = record { threads = first; timers = λ k x z. absurd (none-some x z); works = λ a z. absurd (not-both (sym z)) }
   where
-    first : (i : ℕ) → ThreadFits (threadAt (record { priority = p; status = running; result = none } ∷ []) i)
+    first : (i : ℕ) → ThreadFits (threadAt (firstThread p ∷ []) i)
     first zero = (tt, omega arith)
     first (suc zero) = (tt, tt)
     first (suc (suc i)) = (tt, omega arith)
@@ -318,7 +318,7 @@ module _ (s : State) (v : Valid s) (f : Numbers s) where
   unfolding refusal effect
   numbers-effect (call.Open words p t o d) h e = numbers-opened p t o d
   numbers-effect (call.CreateThread p) h e = with-dispatcher (created d₀ p)
-      (λ i. subst (λ (l : List Thread). Fit (threadAt l i)) (sym (created-threads d₀ p)) (append-either Fit (d₀ .threads) (record { priority = p; status = ready; result = none }) i ((tt, tt), omega arith) (all-fit i))) same
+      (λ i. subst (λ (l : List Thread). Fit (threadAt l i)) (sym (created-threads d₀ p)) (append-either Fit (d₀ .threads) (newThread p) i ((tt, tt), omega arith) (all-fit i))) same
     where
       same : TimersFit n₀ (created d₀ p .objects)
       same = unfold created becomes in (f .timers)

@@ -4,14 +4,14 @@ use mathlib.Core.List.{List, [], _∷_}
 use mathlib.Core.Bool.{Bool, true, false, cond, not}
 use mathlib.Core.Path.{_≡_, refl, sym, ap, _∙_, subst}
 use mathlib.Core.Logic.{inl}
-use mathlib.Core.Option.{Option, none, some}
+use mathlib.Core.Option.{Option, some}
 use native.Mathlib.Omega.{arith}
 use borrow.Author.Tests.{eq-eqb, eqb-true, eqb-false, leb-false, ltb-false, not-false}
 use lib.Dec.{eqb, leb, ltb}
 use lib.ListN.{length}
 use Rattle.model.specs.Lists.{Mem, any, isEmpty, largest}
 use Rattle.model.specs.State.{State, Limits, Dispatcher, Thread, Status, running, ready, waiting, exited, Wait, WaitResult, satisfied, timeout, Named, Mutex, mutex}
-use Rattle.model.specs.Threads.{count, threadOf, statusOf, priorityOf, isThread, isReady, isWaiting, isRunning, hasExited, withThread, withObjects, withSequence, withStatus, withPriority, withResult, becomes, created, prioritized, yielded, terminated, blocked, next, queueOf, ran}
+use Rattle.model.specs.Threads.{count, threadOf, statusOf, priorityOf, isThread, isReady, isWaiting, isRunning, hasExited, withThread, withObjects, withSequence, withStatus, withPriority, withResult, waitingThread, becomes, created, prioritized, yielded, terminated, blocked, next, queueOf, ran}
 use Rattle.model.specs.Waits.{keyOf, objectAt, mutexesOf, exists, isMet, canWake, reached, takes, index, wake}
 use Rattle.model.specs.Refusal.{notPriority, createRefusal, priorityRefusal, yieldRefusal, ownsMutex, terminateRefusal, badList, hasDuplicate, pairs, sequenceRefusal, waitRefusal, delayRefusal}
 use Rattle.model.specs.Step.{withDispatcher, withOwnResult, granted, timedOut, blocks, waited, delayed, dispatched, idleAnswer}
@@ -213,7 +213,7 @@ module _ (s : State) (v : Valid s) where
       let k = current-known n in
       let id = d₀ .current in
       let w : Wait = record { objects = ns; all = all; deadline = deadline; sequence = d₀ .sequence } in
-      let t : Thread = record { priority = priorityOf d₀ id; status = waiting w; result = none } in
+      let t = waitingThread (threadOf d₀ id) w in
       let d₁ = withSequence d₀ (d₀ .sequence + 1) in
       let a₁ = sound-sequence lim d₀ (v .sound) (d₀ .sequence + 1) (omega arith) in
       valid-dispatcher (becomes d₁ id t)

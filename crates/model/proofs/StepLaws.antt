@@ -3,12 +3,12 @@ use Prim.Native.Nat.{ℕ, zero, suc, _≤_}
 use mathlib.Core.List.{List, [], _∷_}
 use mathlib.Core.Bool.{Bool, true, false, cond, not}
 use mathlib.Core.Path.{_≡_, refl, sym, ap}
-use mathlib.Core.Option.{none, some}
+use mathlib.Core.Option.{some}
 use native.Mathlib.Omega.{arith}
 use borrow.Author.Tests.{eqb-true, ne-eqb}
 use lib.Dec.{eqb, ltb}
 use Rattle.model.specs.State.{State, Thread, running, Status}
-use Rattle.model.specs.Threads.{threadAt, noOne, isReady, isWaiting, isRunning, waitOf}
+use Rattle.model.specs.Threads.{threadAt, noOne, firstThread, isReady, isWaiting, isRunning, waitOf}
 use Rattle.model.specs.Waits.{canWake, reached}
 use Rattle.model.specs.Refusal.{notPriority, badLimits, wordsNeeded, openRefusal}
 use Rattle.model.specs.Step.{opened, periodOf, refusal, effect, step, after}
@@ -79,23 +79,20 @@ valid-opened words p t o d e =
       dpcs-lived = omega arith;
     }
   where
-    first : Thread
-    first = record { priority = p; status = running; result = none }
-
-    every : (i : ℕ) (P : Thread → Type 0) → P first → P noOne → P (threadAt (first ∷ []) i)
+    every : (i : ℕ) (P : Thread → Type 0) → P (firstThread p) → P noOne → P (threadAt (firstThread p ∷ []) i)
     every zero P a b = b
     every (suc zero) P a b = a
     every (suc (suc n)) P a b = b
 
-    nobody : (i : ℕ) (f : Status → Bool) → f running ≡ false → f (noOne .status) ≡ false → false ≡ f (threadAt (first ∷ []) i .status)
+    nobody : (i : ℕ) (f : Status → Bool) → f running ≡ false → f (noOne .status) ≡ false → false ≡ f (threadAt (firstThread p ∷ []) i .status)
     nobody i f a b = every i (λ (x : Thread). false ≡ f (x .status)) (sym a) (sym b)
 
-    runs : (i : ℕ) → 1 ≤ i → eqb i 1 ≡ isRunning (threadAt (first ∷ []) i .status)
+    runs : (i : ℕ) → 1 ≤ i → eqb i 1 ≡ isRunning (threadAt (firstThread p ∷ []) i .status)
     runs zero h = absurd (omega arith)
     runs (suc zero) h = refl
     runs (suc (suc n)) h = ne-eqb (suc (suc n)) 1 (λ z. omega arith)
 
-    priority : (i : ℕ) → 1 ≤ i → i ≤ 1 → (1 ≤ p) × (p ≤ 31) → (1 ≤ threadAt (first ∷ []) i .priority) × (threadAt (first ∷ []) i .priority ≤ 31)
+    priority : (i : ℕ) → 1 ≤ i → i ≤ 1 → (1 ≤ p) × (p ≤ 31) → (1 ≤ threadAt (firstThread p ∷ []) i .priority) × (threadAt (firstThread p ∷ []) i .priority ≤ 31)
     priority zero h k q = absurd (omega arith)
     priority (suc zero) h k q = q
     priority (suc (suc n)) h k q = absurd (omega arith)

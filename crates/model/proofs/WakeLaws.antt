@@ -10,7 +10,7 @@ use native.Mathlib.Decide.{ℕ-discrete}
 use lib.ListN.{length}
 use Rattle.model.specs.Lists.{Mem}
 use Rattle.model.specs.State.{Limits, Dispatcher, Thread, Status, running, ready, waiting, exited, Wait, WaitResult, satisfied, timeout, Object}
-use Rattle.model.specs.Threads.{count, threadAt, statusOf, priorityOf, isWaiting, hasExited, waitOf, withObjects, becomes, woken, numbersOf}
+use Rattle.model.specs.Threads.{count, threadAt, threadOf, statusOf, isWaiting, hasExited, waitOf, withObjects, readyAgain, becomes, woken, numbersOf}
 use Rattle.model.specs.Waits.{canWake, reached, takes, index, wakeOne, pass, wake, isOverdue, timeOutEach, timeOut}
 use Rattle.model.specs.Valid.{Sound, Quiet, InTime, Placed}
 use Rattle.model.proofs.ListLaws.{not-both, member-mem}
@@ -55,7 +55,7 @@ in-range d i e = stands-somewhere (d .threads) i isWaiting refl e
 
 made-ready : (lim : Limits) (d : Dispatcher) → Sound lim d → (id : ℕ) → 1 ≤ id → id ≤ count d → (r : WaitResult) → Sound lim (woken d id r)
 unfolding woken
-made-ready lim d s id a b r = sound-becomes lim d s id (record { priority = priorityOf d id; status = ready; result = some r })
+made-ready lim d s id a b r = sound-becomes lim d s id (readyAgain (threadOf d id) (some r))
     (record { from = a; to = b; runs = λ e. absurd (not-both (sym e)); later = λ e. absurd (not-both (sym e)); below = λ e. absurd (not-both (sym e)) })
     (s .priorities id a b) tt (λ e. absurd (not-both (sym e)))
 
@@ -82,24 +82,24 @@ module _ (lim : Limits) (d : Dispatcher) (s : Sound lim d) (x : ℕ) (c : canWak
 
   visit-unmet : (v : Wait) → canWake d v ≡ false → canWake (woken (withObjects d l) x r) v ≡ false
   unfolding woken
-  visit-unmet v e = unmet-after lim (withObjects d l) (sound-restated lim d s l (taken .0)) x (record { priority = priorityOf d x; status = ready; result = some r }) refl v
+  visit-unmet v e = unmet-after lim (withObjects d l) (sound-restated lim d s l (taken .0)) x (readyAgain (threadOf d x) (some r)) refl v
       (wake-falls (withObjects d l) d v (λ n m z. available-falls d l (taken .0 .same) (taken .1) n z) e)
 
   visit-other : (i : ℕ) → (i ≡ x → ⊥) → statusOf (woken (withObjects d l) x r) i ≡ statusOf d i
   unfolding woken becomes
-  visit-other i n = ap (λ (t : Thread). t .status) (change-other (d .threads) x (record { priority = priorityOf d x; status = ready; result = some r }) i n)
+  visit-other i n = ap (λ (t : Thread). t .status) (change-other (d .threads) x (readyAgain (threadOf d x) (some r)) i n)
 
   visit-own : statusOf (woken (withObjects d l) x r) x ≡ ready
   unfolding woken becomes
-  visit-own = ap (λ (t : Thread). t .status) (change-own (d .threads) x (record { priority = priorityOf d x; status = ready; result = some r }) (range .0) (range .1))
+  visit-own = ap (λ (t : Thread). t .status) (change-own (d .threads) x (readyAgain (threadOf d x) (some r)) (range .0) (range .1))
 
   visit-restated : (Same (d .objects) (woken (withObjects d l) x r .objects)) × (count (woken (withObjects d l) x r) ≡ count d)
   unfolding woken becomes
-  visit-restated = (taken .0 .same, length-change (d .threads) x (record { priority = priorityOf d x; status = ready; result = some r }))
+  visit-restated = (taken .0 .same, length-change (d .threads) x (readyAgain (threadOf d x) (some r)))
 
   visit-in-time : (now : ℕ) → InTime now d → InTime now (woken (withObjects d l) x r)
   unfolding woken
-  visit-in-time now q = in-time-becomes lim (withObjects d l) (sound-restated lim d s l (taken .0)) x (record { priority = priorityOf d x; status = ready; result = some r }) now refl q
+  visit-in-time now q = in-time-becomes lim (withObjects d l) (sound-restated lim d s l (taken .0)) x (readyAgain (threadOf d x) (some r)) now refl q
 
 -- who waits and is still to be visited, or cannot be met
 abbrev Left : Dispatcher → List ℕ → Type 0
@@ -202,19 +202,19 @@ numbers-range f n (x ∷ xs) i m = go (f x) m (numbers-range f (suc n) xs i)
 module _ (d : Dispatcher) (x : ℕ) (one : 1 ≤ x) (le : x ≤ count d) where
   timed-own : statusOf (woken d x timeout) x ≡ ready
   unfolding woken becomes
-  timed-own = ap (λ (t : Thread). t .status) (change-own (d .threads) x (record { priority = priorityOf d x; status = ready; result = some timeout }) one le)
+  timed-own = ap (λ (t : Thread). t .status) (change-own (d .threads) x (readyAgain (threadOf d x) (some timeout)) one le)
 
   timed-other : (i : ℕ) → (i ≡ x → ⊥) → statusOf (woken d x timeout) i ≡ statusOf d i
   unfolding woken becomes
-  timed-other i n = ap (λ (t : Thread). t .status) (change-other (d .threads) x (record { priority = priorityOf d x; status = ready; result = some timeout }) i n)
+  timed-other i n = ap (λ (t : Thread). t .status) (change-other (d .threads) x (readyAgain (threadOf d x) (some timeout)) i n)
 
   timed-count : (count (woken d x timeout) ≡ count d) × (woken d x timeout .objects ≡ d .objects)
   unfolding woken becomes
-  timed-count = (length-change (d .threads) x (record { priority = priorityOf d x; status = ready; result = some timeout }), refl)
+  timed-count = (length-change (d .threads) x (readyAgain (threadOf d x) (some timeout)), refl)
 
   timed-quiet : (lim : Limits) → Sound lim d → Quiet d → Quiet (woken d x timeout)
   unfolding woken
-  timed-quiet lim s q = quiet-becomes lim d s x (record { priority = priorityOf d x; status = ready; result = some timeout }) refl refl q
+  timed-quiet lim s q = quiet-becomes lim d s x (readyAgain (threadOf d x) (some timeout)) refl refl q
 
 pub record TimedOut (lim : Limits) (d d′ : Dispatcher) (now : ℕ) : Type 0 where
   pub sound : Sound lim d′

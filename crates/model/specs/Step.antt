@@ -13,8 +13,8 @@ use Rattle.images.specs.declared.DpcPhase.{DpcPhase}
 use Rattle.images.specs.declared.DpcPhase.the-variants.{Idle, Queued, Running, Returning}
 use Rattle.images.specs.declared.DpcOrigin.the-variants as origin
 use Rattle.model.specs.Lists.{keep, isEmpty, given}
-use Rattle.model.specs.State.{State, Dispatcher, Dpcs, Thread, running, satisfied, timeout, Named, Mutex, Event, Object, mutex, event, timer, unselected, cpu0Dispatch, WaitResult}
-use Rattle.model.specs.Threads.{count, threadOf, waitOf, withThread, withObjects, withResult, created, prioritized, yielded, terminated, blocked, next, ran, waitingNumbers}
+use Rattle.model.specs.State.{State, Dispatcher, Dpcs, Thread, satisfied, timeout, Named, Mutex, Event, Object, mutex, event, timer, unselected, cpu0Dispatch, WaitResult}
+use Rattle.model.specs.Threads.{count, threadOf, waitOf, withThread, withObjects, withResult, firstThread, created, prioritized, yielded, terminated, blocked, next, ran, waitingNumbers}
 use Rattle.model.specs.Waits.{mutexAt, eventAt, timerAt, timersOf, putObject, ownedBy, signaledAs, waitsOn, isMet, index, takes, wake, reached, timeOut}
 use Rattle.model.specs.Dpcs.{phaseAt, putDpc, isFrom, isQueued, accepted, duplicated, withdrawn, started, returned, restored}
 use Rattle.model.specs.Timers.{newTimer, armed, cancelled, dueTimers, expireEach, Expired}
@@ -44,7 +44,7 @@ unfoldable pub opened : ℕ → ℕ → ℕ → ℕ → State
 opened p t o d =
     record {
       limits = record { threads = t; objects = o; dpcs = d };
-      dispatcher = record { threads = record { priority = p; status = running; result = none } ∷ []; current = 1; placed = []; waiters = []; sequence = 0; objects = [] };
+      dispatcher = record { threads = firstThread p ∷ []; current = 1; placed = []; waiters = []; sequence = 0; objects = [] };
       dpcs = record { table = []; queue = []; counters = record { accepted = 0; duplicates = 0; removed = 0; started = 0; returned = 0; restored = 0 } };
       now = 0;
       policy = unselected;

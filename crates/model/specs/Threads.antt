@@ -156,13 +156,27 @@ withPriority t p = record { priority = p; status = t .status; result = t .result
 abbrev pub withResult : Thread → Option WaitResult → Thread
 withResult t r = record { priority = t .priority; status = t .status; result = r }
 
+-- thread 1 as `open` makes it: it runs, and has not waited
+abbrev pub firstThread : ℕ → Thread
+firstThread p = record { priority = p; status = running; result = none }
+
+-- a created thread: it is ready, and has not waited
+abbrev pub newThread : ℕ → Thread
+newThread p = record { priority = p; status = ready; result = none }
+
+-- a thread that is ready after a wait that ended so
+abbrev pub readyAgain : Thread → Option WaitResult → Thread
+readyAgain t r = withResult (withStatus t ready) r
+
+-- a thread that blocks: its wait has no result yet
+abbrev pub waitingThread : Thread → Wait → Thread
+waitingThread t w = withResult (withStatus t (waiting w)) none
+
 -- ---- what becomes of a thread
 
 -- "A thread created .. is placed last in its priority's queue."
 unfoldable pub created : Dispatcher → ℕ → Dispatcher
-created d p =
-    let t : Thread = record { priority = p; status = ready; result = none } in
-    becomes (withNew d t) (suc (count d)) t
+created d p = becomes (withNew d (newThread p)) (suc (count d)) (newThread p)
 
 -- ".. or, while ready, given a priority, even the same, is placed last in its priority's queue."
 unfoldable pub prioritized : Dispatcher → ℕ → ℕ → Dispatcher
@@ -180,13 +194,13 @@ terminated d status = becomes d (d .current) (withStatus (threadOf d (d .current
 
 -- "A thread .. woken, timed out .. is placed last in its priority's queue."
 unfoldable pub woken : Dispatcher → ℕ → WaitResult → Dispatcher
-woken d id r = becomes d id (record { priority = priorityOf d id; status = ready; result = some r })
+woken d id r = becomes d id (readyAgain (threadOf d id) (some r))
 
 -- the current thread blocks, with the next wait sequence
 unfoldable pub blocked : Dispatcher → List Named → Bool → Option ℕ → Dispatcher
 blocked d objects all deadline =
     let w : Wait = record { objects = objects; all = all; deadline = deadline; sequence = d .sequence } in
-    becomes (withSequence d (d .sequence + 1)) (d .current) (record { priority = priorityOf d (d .current); status = waiting w; result = none })
+    becomes (withSequence d (d .sequence + 1)) (d .current) (waitingThread (threadOf d (d .current)) w)
 
 -- ---- dispatch
 
