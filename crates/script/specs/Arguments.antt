@@ -12,15 +12,15 @@ use Rattle.script.specs.declared.arguments.Three.{Three}
 use Rattle.script.specs.declared.arguments.Three.the-variants as three
 use Rattle.script.specs.declared.command.Command.{Command}
 use Rattle.script.specs.declared.command.Command.the-variants as command
+use Rattle.script.specs.Text.{bytesOf}
 use Rattle.script.specs.Words.{first, others, none, same}
 use Rattle.script.specs.Numbers.{numberOf}
 
 abbrev pub most : ℕ
 most = 2 ^ 64 - 1
 
--- 48 is the digit 0
 unfoldable pub flagOf : List ℕ → Flag
-flagOf w = cond (same w (48 ∷ [])) (flag.Read false) (cond (same w (49 ∷ [])) (flag.Read true) flag.Unread)
+flagOf w = cond (same w (bytesOf "0")) (flag.Read false) (cond (same w (bytesOf "1")) (flag.Read true) flag.Unread)
 
 -- ---- so many numbers, each within its limit, and no word more
 

@@ -1,239 +1,181 @@
 -- The words that a script names things by, each as its bytes.
-use mathlib.Core.List.{List, [], _∷_}
+use mathlib.Core.List.{List}
 use Prim.Native.Nat.{ℕ}
+use Rattle.script.specs.Text.{bytesOf}
 
--- open
 abbrev pub opens : List ℕ
-opens = 111 ∷ 112 ∷ 101 ∷ 110 ∷ []
+opens = bytesOf "open"
 
--- event
 abbrev pub event : List ℕ
-event = 101 ∷ 118 ∷ 101 ∷ 110 ∷ 116 ∷ []
+event = bytesOf "event"
 
--- create
 abbrev pub create : List ℕ
-create = 99 ∷ 114 ∷ 101 ∷ 97 ∷ 116 ∷ 101 ∷ []
+create = bytesOf "create"
 
--- wait
 abbrev pub wait : List ℕ
-wait = 119 ∷ 97 ∷ 105 ∷ 116 ∷ []
+wait = bytesOf "wait"
 
--- dispatch
 abbrev pub dispatch : List ℕ
-dispatch = 100 ∷ 105 ∷ 115 ∷ 112 ∷ 97 ∷ 116 ∷ 99 ∷ 104 ∷ []
+dispatch = bytesOf "dispatch"
 
--- set
 abbrev pub set : List ℕ
-set = 115 ∷ 101 ∷ 116 ∷ []
+set = bytesOf "set"
 
--- yield
 abbrev pub yield : List ℕ
-yield = 121 ∷ 105 ∷ 101 ∷ 108 ∷ 100 ∷ []
+yield = bytesOf "yield"
 
--- current
 abbrev pub current : List ℕ
-current = 99 ∷ 117 ∷ 114 ∷ 114 ∷ 101 ∷ 110 ∷ 116 ∷ []
+current = bytesOf "current"
 
--- require_event_release
 abbrev pub requireEventRelease : List ℕ
-requireEventRelease = 114 ∷ 101 ∷ 113 ∷ 117 ∷ 105 ∷ 114 ∷ 101 ∷ 95 ∷ 101 ∷ 118 ∷ 101 ∷ 110 ∷ 116 ∷ 95 ∷ 114 ∷ 101 ∷ 108 ∷ 101 ∷ 97 ∷ 115 ∷ 101 ∷ []
+requireEventRelease = bytesOf "require_event_release"
 
--- retire_event_backing
 abbrev pub retireEventBacking : List ℕ
-retireEventBacking = 114 ∷ 101 ∷ 116 ∷ 105 ∷ 114 ∷ 101 ∷ 95 ∷ 101 ∷ 118 ∷ 101 ∷ 110 ∷ 116 ∷ 95 ∷ 98 ∷ 97 ∷ 99 ∷ 107 ∷ 105 ∷ 110 ∷ 103 ∷ []
+retireEventBacking = bytesOf "retire_event_backing"
 
--- mutex_owner
 abbrev pub mutexOwner : List ℕ
-mutexOwner = 109 ∷ 117 ∷ 116 ∷ 101 ∷ 120 ∷ 95 ∷ 111 ∷ 119 ∷ 110 ∷ 101 ∷ 114 ∷ []
+mutexOwner = bytesOf "mutex_owner"
 
--- adopt_mutex
 abbrev pub adoptMutex : List ℕ
-adoptMutex = 97 ∷ 100 ∷ 111 ∷ 112 ∷ 116 ∷ 95 ∷ 109 ∷ 117 ∷ 116 ∷ 101 ∷ 120 ∷ []
+adoptMutex = bytesOf "adopt_mutex"
 
--- mutex_waiters
 abbrev pub mutexWaiters : List ℕ
-mutexWaiters = 109 ∷ 117 ∷ 116 ∷ 101 ∷ 120 ∷ 95 ∷ 119 ∷ 97 ∷ 105 ∷ 116 ∷ 101 ∷ 114 ∷ 115 ∷ []
+mutexWaiters = bytesOf "mutex_waiters"
 
--- priority
 abbrev pub priority : List ℕ
-priority = 112 ∷ 114 ∷ 105 ∷ 111 ∷ 114 ∷ 105 ∷ 116 ∷ 121 ∷ []
+priority = bytesOf "priority"
 
--- initialize_mutex
 abbrev pub initializeMutex : List ℕ
-initializeMutex = 105 ∷ 110 ∷ 105 ∷ 116 ∷ 105 ∷ 97 ∷ 108 ∷ 105 ∷ 122 ∷ 101 ∷ 95 ∷ 109 ∷ 117 ∷ 116 ∷ 101 ∷ 120 ∷ []
+initializeMutex = bytesOf "initialize_mutex"
 
--- delay_until
 abbrev pub delayUntil : List ℕ
-delayUntil = 100 ∷ 101 ∷ 108 ∷ 97 ∷ 121 ∷ 95 ∷ 117 ∷ 110 ∷ 116 ∷ 105 ∷ 108 ∷ []
+delayUntil = bytesOf "delay_until"
 
--- advance_to
 abbrev pub advanceTo : List ℕ
-advanceTo = 97 ∷ 100 ∷ 118 ∷ 97 ∷ 110 ∷ 99 ∷ 101 ∷ 95 ∷ 116 ∷ 111 ∷ []
+advanceTo = bytesOf "advance_to"
 
--- release_mutex
 abbrev pub releaseMutex : List ℕ
-releaseMutex = 114 ∷ 101 ∷ 108 ∷ 101 ∷ 97 ∷ 115 ∷ 101 ∷ 95 ∷ 109 ∷ 117 ∷ 116 ∷ 101 ∷ 120 ∷ []
+releaseMutex = bytesOf "release_mutex"
 
--- reset_event
 abbrev pub resetEvent : List ℕ
-resetEvent = 114 ∷ 101 ∷ 115 ∷ 101 ∷ 116 ∷ 95 ∷ 101 ∷ 118 ∷ 101 ∷ 110 ∷ 116 ∷ []
+resetEvent = bytesOf "reset_event"
 
--- terminate
 abbrev pub terminate : List ℕ
-terminate = 116 ∷ 101 ∷ 114 ∷ 109 ∷ 105 ∷ 110 ∷ 97 ∷ 116 ∷ 101 ∷ []
+terminate = bytesOf "terminate"
 
--- clock
 abbrev pub clock : List ℕ
-clock = 99 ∷ 108 ∷ 111 ∷ 99 ∷ 107 ∷ []
+clock = bytesOf "clock"
 
--- new
 abbrev pub new : List ℕ
-new = 110 ∷ 101 ∷ 119 ∷ []
+new = bytesOf "new"
 
--- instruction
 abbrev pub instruction : List ℕ
-instruction = 105 ∷ 110 ∷ 115 ∷ 116 ∷ 114 ∷ 117 ∷ 99 ∷ 116 ∷ 105 ∷ 111 ∷ 110 ∷ []
+instruction = bytesOf "instruction"
 
--- advance_microseconds
 abbrev pub advanceMicroseconds : List ℕ
-advanceMicroseconds = 97 ∷ 100 ∷ 118 ∷ 97 ∷ 110 ∷ 99 ∷ 101 ∷ 95 ∷ 109 ∷ 105 ∷ 99 ∷ 114 ∷ 111 ∷ 115 ∷ 101 ∷ 99 ∷ 111 ∷ 110 ∷ 100 ∷ 115 ∷ []
+advanceMicroseconds = bytesOf "advance_microseconds"
 
--- advance_100ns
 abbrev pub advance100ns : List ℕ
-advance100ns = 97 ∷ 100 ∷ 118 ∷ 97 ∷ 110 ∷ 99 ∷ 101 ∷ 95 ∷ 49 ∷ 48 ∷ 48 ∷ 110 ∷ 115 ∷ []
+advance100ns = bytesOf "advance_100ns"
 
--- advance_milliseconds
 abbrev pub advanceMilliseconds : List ℕ
-advanceMilliseconds = 97 ∷ 100 ∷ 118 ∷ 97 ∷ 110 ∷ 99 ∷ 101 ∷ 95 ∷ 109 ∷ 105 ∷ 108 ∷ 108 ∷ 105 ∷ 115 ∷ 101 ∷ 99 ∷ 111 ∷ 110 ∷ 100 ∷ 115 ∷ []
+advanceMilliseconds = bytesOf "advance_milliseconds"
 
--- flush_cycles
 abbrev pub flushCycles : List ℕ
-flushCycles = 102 ∷ 108 ∷ 117 ∷ 115 ∷ 104 ∷ 95 ∷ 99 ∷ 121 ∷ 99 ∷ 108 ∷ 101 ∷ 115 ∷ []
+flushCycles = bytesOf "flush_cycles"
 
--- observe
 abbrev pub observe : List ℕ
-observe = 111 ∷ 98 ∷ 115 ∷ 101 ∷ 114 ∷ 118 ∷ 101 ∷ []
+observe = bytesOf "observe"
 
--- qpc
 abbrev pub qpc : List ℕ
-qpc = 113 ∷ 112 ∷ 99 ∷ []
+qpc = bytesOf "qpc"
 
--- tick64
 abbrev pub tick64 : List ℕ
-tick64 = 116 ∷ 105 ∷ 99 ∷ 107 ∷ 54 ∷ 52 ∷ []
+tick64 = bytesOf "tick64"
 
--- tsc
 abbrev pub tsc : List ℕ
-tsc = 116 ∷ 115 ∷ 99 ∷ []
+tsc = bytesOf "tsc"
 
--- timer_initializations
 abbrev pub timerInitializations : List ℕ
-timerInitializations = 116 ∷ 105 ∷ 109 ∷ 101 ∷ 114 ∷ 95 ∷ 105 ∷ 110 ∷ 105 ∷ 116 ∷ 105 ∷ 97 ∷ 108 ∷ 105 ∷ 122 ∷ 97 ∷ 116 ∷ 105 ∷ 111 ∷ 110 ∷ 115 ∷ []
+timerInitializations = bytesOf "timer_initializations"
 
--- dpc_initializations
 abbrev pub dpcInitializations : List ℕ
-dpcInitializations = 100 ∷ 112 ∷ 99 ∷ 95 ∷ 105 ∷ 110 ∷ 105 ∷ 116 ∷ 105 ∷ 97 ∷ 108 ∷ 105 ∷ 122 ∷ 97 ∷ 116 ∷ 105 ∷ 111 ∷ 110 ∷ 115 ∷ []
+dpcInitializations = bytesOf "dpc_initializations"
 
--- timer_read_overlap
 abbrev pub timerReadOverlap : List ℕ
-timerReadOverlap = 116 ∷ 105 ∷ 109 ∷ 101 ∷ 114 ∷ 95 ∷ 114 ∷ 101 ∷ 97 ∷ 100 ∷ 95 ∷ 111 ∷ 118 ∷ 101 ∷ 114 ∷ 108 ∷ 97 ∷ 112 ∷ []
+timerReadOverlap = bytesOf "timer_read_overlap"
 
--- timer_metadata_overlap
 abbrev pub timerMetadataOverlap : List ℕ
-timerMetadataOverlap = 116 ∷ 105 ∷ 109 ∷ 101 ∷ 114 ∷ 95 ∷ 109 ∷ 101 ∷ 116 ∷ 97 ∷ 100 ∷ 97 ∷ 116 ∷ 97 ∷ 95 ∷ 111 ∷ 118 ∷ 101 ∷ 114 ∷ 108 ∷ 97 ∷ 112 ∷ []
+timerMetadataOverlap = bytesOf "timer_metadata_overlap"
 
--- initialize_timer
 abbrev pub initializeTimer : List ℕ
-initializeTimer = 105 ∷ 110 ∷ 105 ∷ 116 ∷ 105 ∷ 97 ∷ 108 ∷ 105 ∷ 122 ∷ 101 ∷ 95 ∷ 116 ∷ 105 ∷ 109 ∷ 101 ∷ 114 ∷ []
+initializeTimer = bytesOf "initialize_timer"
 
--- initialize_dpc
 abbrev pub initializeDpc : List ℕ
-initializeDpc = 105 ∷ 110 ∷ 105 ∷ 116 ∷ 105 ∷ 97 ∷ 108 ∷ 105 ∷ 122 ∷ 101 ∷ 95 ∷ 100 ∷ 112 ∷ 99 ∷ []
+initializeDpc = bytesOf "initialize_dpc"
 
--- set_timer
 abbrev pub setTimer : List ℕ
-setTimer = 115 ∷ 101 ∷ 116 ∷ 95 ∷ 116 ∷ 105 ∷ 109 ∷ 101 ∷ 114 ∷ []
+setTimer = bytesOf "set_timer"
 
--- cancel_timer
 abbrev pub cancelTimer : List ℕ
-cancelTimer = 99 ∷ 97 ∷ 110 ∷ 99 ∷ 101 ∷ 108 ∷ 95 ∷ 116 ∷ 105 ∷ 109 ∷ 101 ∷ 114 ∷ []
+cancelTimer = bytesOf "cancel_timer"
 
--- require_timer_release
 abbrev pub requireTimerRelease : List ℕ
-requireTimerRelease = 114 ∷ 101 ∷ 113 ∷ 117 ∷ 105 ∷ 114 ∷ 101 ∷ 95 ∷ 116 ∷ 105 ∷ 109 ∷ 101 ∷ 114 ∷ 95 ∷ 114 ∷ 101 ∷ 108 ∷ 101 ∷ 97 ∷ 115 ∷ 101 ∷ []
+requireTimerRelease = bytesOf "require_timer_release"
 
--- retire_timer_backing
 abbrev pub retireTimerBacking : List ℕ
-retireTimerBacking = 114 ∷ 101 ∷ 116 ∷ 105 ∷ 114 ∷ 101 ∷ 95 ∷ 116 ∷ 105 ∷ 109 ∷ 101 ∷ 114 ∷ 95 ∷ 98 ∷ 97 ∷ 99 ∷ 107 ∷ 105 ∷ 110 ∷ 103 ∷ []
+retireTimerBacking = bytesOf "retire_timer_backing"
 
--- configure_dpc_dispatch
 abbrev pub configureDpcDispatch : List ℕ
-configureDpcDispatch = 99 ∷ 111 ∷ 110 ∷ 102 ∷ 105 ∷ 103 ∷ 117 ∷ 114 ∷ 101 ∷ 95 ∷ 100 ∷ 112 ∷ 99 ∷ 95 ∷ 100 ∷ 105 ∷ 115 ∷ 112 ∷ 97 ∷ 116 ∷ 99 ∷ 104 ∷ []
+configureDpcDispatch = bytesOf "configure_dpc_dispatch"
 
--- queued_dpcs
 abbrev pub queuedDpcs : List ℕ
-queuedDpcs = 113 ∷ 117 ∷ 101 ∷ 117 ∷ 101 ∷ 100 ∷ 95 ∷ 100 ∷ 112 ∷ 99 ∷ 115 ∷ []
+queuedDpcs = bytesOf "queued_dpcs"
 
--- insert_queue_dpc
 abbrev pub insertQueueDpc : List ℕ
-insertQueueDpc = 105 ∷ 110 ∷ 115 ∷ 101 ∷ 114 ∷ 116 ∷ 95 ∷ 113 ∷ 117 ∷ 101 ∷ 117 ∷ 101 ∷ 95 ∷ 100 ∷ 112 ∷ 99 ∷ []
+insertQueueDpc = bytesOf "insert_queue_dpc"
 
--- remove_queue_dpc
 abbrev pub removeQueueDpc : List ℕ
-removeQueueDpc = 114 ∷ 101 ∷ 109 ∷ 111 ∷ 118 ∷ 101 ∷ 95 ∷ 113 ∷ 117 ∷ 101 ∷ 117 ∷ 101 ∷ 95 ∷ 100 ∷ 112 ∷ 99 ∷ []
+removeQueueDpc = bytesOf "remove_queue_dpc"
 
--- start_dpc
 abbrev pub startDpc : List ℕ
-startDpc = 115 ∷ 116 ∷ 97 ∷ 114 ∷ 116 ∷ 95 ∷ 100 ∷ 112 ∷ 99 ∷ []
+startDpc = bytesOf "start_dpc"
 
--- returned_dpc
 abbrev pub returnedDpc : List ℕ
-returnedDpc = 114 ∷ 101 ∷ 116 ∷ 117 ∷ 114 ∷ 110 ∷ 101 ∷ 100 ∷ 95 ∷ 100 ∷ 112 ∷ 99 ∷ []
+returnedDpc = bytesOf "returned_dpc"
 
--- restored_dpc
 abbrev pub restoredDpc : List ℕ
-restoredDpc = 114 ∷ 101 ∷ 115 ∷ 116 ∷ 111 ∷ 114 ∷ 101 ∷ 100 ∷ 95 ∷ 100 ∷ 112 ∷ 99 ∷ []
+restoredDpc = bytesOf "restored_dpc"
 
--- x64
 abbrev pub x64 : List ℕ
-x64 = 120 ∷ 54 ∷ 52 ∷ []
+x64 = bytesOf "x64"
 
--- x86
 abbrev pub x86 : List ℕ
-x86 = 120 ∷ 56 ∷ 54 ∷ []
+x86 = bytesOf "x86"
 
--- image
 abbrev pub image : List ℕ
-image = 105 ∷ 109 ∷ 97 ∷ 103 ∷ 101 ∷ []
+image = bytesOf "image"
 
--- pool
 abbrev pub pool : List ℕ
-pool = 112 ∷ 111 ∷ 111 ∷ 108 ∷ []
+pool = bytesOf "pool"
 
--- any
 abbrev pub any : List ℕ
-any = 97 ∷ 110 ∷ 121 ∷ []
+any = bytesOf "any"
 
--- all
 abbrev pub all : List ℕ
-all = 97 ∷ 108 ∷ 108 ∷ []
+all = bytesOf "all"
 
--- never
 abbrev pub never : List ℕ
-never = 110 ∷ 101 ∷ 118 ∷ 101 ∷ 114 ∷ []
+never = bytesOf "never"
 
--- none
 abbrev pub none : List ℕ
-none = 110 ∷ 111 ∷ 110 ∷ 101 ∷ []
+none = bytesOf "none"
 
--- mutex
 abbrev pub mutex : List ℕ
-mutex = 109 ∷ 117 ∷ 116 ∷ 101 ∷ 120 ∷ []
+mutex = bytesOf "mutex"
 
--- timer
 abbrev pub timer : List ℕ
-timer = 116 ∷ 105 ∷ 109 ∷ 101 ∷ 114 ∷ []
+timer = bytesOf "timer"
 
--- thread
 abbrev pub thread : List ℕ
-thread = 116 ∷ 104 ∷ 114 ∷ 101 ∷ 97 ∷ 100 ∷ []
+thread = bytesOf "thread"

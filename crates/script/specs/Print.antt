@@ -6,6 +6,7 @@ use lib.Dec.{ltb}
 use lib.ListN.{length, set, take}
 use Rattle.answers.specs.declared.Answer.{Answer}
 use Rattle.answers.specs.declared.Answer.the-variants as answer
+use Rattle.script.specs.Text.{bytesOf}
 
 -- ---- numbers
 
@@ -42,43 +43,30 @@ printed t at (b ∷ bs) = cond (ltb at (length t)) (printed (set t at b) (at + 1
 
 -- ---- answers
 
--- yes, no
 unfoldable pub flagText : Bool → List ℕ
-flagText true = 121 ∷ 101 ∷ 115 ∷ []
-flagText false = 110 ∷ 111 ∷ []
+flagText true = bytesOf "yes"
+flagText false = bytesOf "no"
 
 -- an event has no line
 unfoldable pub answerText : Answer → List ℕ → List ℕ
--- refused
-answerText (answer.Refused n) numbers = (114 ∷ 101 ∷ 102 ∷ 117 ∷ 115 ∷ 101 ∷ 100 ∷ 32 ∷ []) ++ decimal n
--- ok
-answerText answer.Done numbers = 111 ∷ 107 ∷ []
--- none
-answerText answer.None numbers = 110 ∷ 111 ∷ 110 ∷ 101 ∷ []
--- thread
-answerText (answer.Thread n) numbers = (116 ∷ 104 ∷ 114 ∷ 101 ∷ 97 ∷ 100 ∷ 32 ∷ []) ++ decimal n
+answerText (answer.Refused n) numbers = bytesOf "refused " ++ decimal n
+answerText answer.Done numbers = bytesOf "ok"
+answerText answer.None numbers = bytesOf "none"
+answerText (answer.Thread n) numbers = bytesOf "thread " ++ decimal n
 answerText (answer.Flag f) numbers = flagText f
 answerText (answer.Count n) numbers = decimal n
--- satisfied
-answerText (answer.Satisfied n) numbers = (115 ∷ 97 ∷ 116 ∷ 105 ∷ 115 ∷ 102 ∷ 105 ∷ 101 ∷ 100 ∷ 32 ∷ []) ++ decimal n
--- timeout
-answerText answer.Timeout numbers = 116 ∷ 105 ∷ 109 ∷ 101 ∷ 111 ∷ 117 ∷ 116 ∷ []
--- blocked
-answerText answer.Blocked numbers = 98 ∷ 108 ∷ 111 ∷ 99 ∷ 107 ∷ 101 ∷ 100 ∷ []
--- run
-answerText (answer.Run n) numbers = (114 ∷ 117 ∷ 110 ∷ 32 ∷ []) ++ decimal n
--- advance
-answerText (answer.AdvanceTo n) numbers = (97 ∷ 100 ∷ 118 ∷ 97 ∷ 110 ∷ 99 ∷ 101 ∷ 32 ∷ []) ++ decimal n
--- deadlocked
-answerText (answer.Deadlocked n) numbers = (100 ∷ 101 ∷ 97 ∷ 100 ∷ 108 ∷ 111 ∷ 99 ∷ 107 ∷ 101 ∷ 100 ∷ []) ++ spaced (take n numbers)
--- finished
-answerText answer.Finished numbers = 102 ∷ 105 ∷ 110 ∷ 105 ∷ 115 ∷ 104 ∷ 101 ∷ 100 ∷ []
--- none
-answerText (answer.Event key manual signaled) numbers = 110 ∷ 111 ∷ 110 ∷ 101 ∷ []
+answerText (answer.Satisfied n) numbers = bytesOf "satisfied " ++ decimal n
+answerText answer.Timeout numbers = bytesOf "timeout"
+answerText answer.Blocked numbers = bytesOf "blocked"
+answerText (answer.Run n) numbers = bytesOf "run " ++ decimal n
+answerText (answer.AdvanceTo n) numbers = bytesOf "advance " ++ decimal n
+answerText (answer.Deadlocked n) numbers = bytesOf "deadlocked" ++ spaced (take n numbers)
+answerText answer.Finished numbers = bytesOf "finished"
+answerText (answer.Event key manual signaled) numbers = bytesOf "none"
 
 -- the line's number, a space, the answer, a newline
 unfoldable pub answerLine : ℕ → Answer → List ℕ → List ℕ
-answerLine number a numbers = decimal number ++ (32 ∷ []) ++ answerText a numbers ++ (10 ∷ [])
+answerLine number a numbers = decimal number ++ bytesOf " " ++ answerText a numbers ++ bytesOf "\n"
 
 -- a thread as a number alone
 unfoldable pub bareAnswer : Answer → Answer
