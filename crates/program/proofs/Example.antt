@@ -1,9 +1,9 @@
 -- Document 01's example script, computed from its bytes to the log's answers.
 use mathlib.Core.List.{[], _∷_}
 use mathlib.Core.Path.{_≡_, refl}
-use Rattle.script.specs.Words.{blank, grown, pieces, full, wordsOf, first, others, none, same}
-use Rattle.script.specs.Numbers.{allDigits, value, numberFrom, numberOf}
-use Rattle.script.specs.Arguments.{flagOf, oneOf, withOne, bareLine}
+use Rattle.script_lex.specs.Words.{blank, grown, pieces, full, wordsOf, first, others, none, same}
+use Rattle.script_lex.specs.Numbers.{allDigits, value, numberFrom, numberOf}
+use Rattle.script_lex.specs.Arguments.{flagOf, oneOf, withOne, bareLine}
 use Rattle.script.specs.Wait.{kindOf, itemOf, isRead, told, pairsOf, waitCommand, withIrql, waitFrom, withDeadline, waitUntil, waitLine}
 use Rattle.script.specs.Scheduler.{withFlags, flagged, eventLine, shortLine}
 use Rattle.script.specs.Line.{textLength, textLine, readLine}

@@ -9,39 +9,39 @@ use lib.IntN.{ℤ, pos, negsuc, negℤ}
 use lib.ListN.{length, getD, set, take, drop}
 use Rattle.arch.specs.declared.Architecture.{Architecture}
 use Rattle.images.specs.declared.TimerBacking.{TimerBacking}
-use Rattle.script.specs.declared.lex.Number.{Number}
-use Rattle.script.specs.declared.lex.Number.the-variants as number
-use Rattle.script.specs.declared.lex.Signed.{Signed}
-use Rattle.script.specs.declared.lex.Signed.the-variants as signed
-use Rattle.script.specs.declared.arguments.Flag.{Flag}
-use Rattle.script.specs.declared.arguments.Flag.the-variants as flag
-use Rattle.script.specs.declared.arguments.Two.{Two}
-use Rattle.script.specs.declared.arguments.Two.the-variants as two
-use Rattle.script.specs.declared.arguments.Three.{Three}
-use Rattle.script.specs.declared.arguments.Three.the-variants as three
-use Rattle.script.specs.declared.location.Arch.{Arch}
-use Rattle.script.specs.declared.location.Arch.the-variants as arch
-use Rattle.script.specs.declared.location.Backing.{Backing}
-use Rattle.script.specs.declared.location.Backing.the-variants as backing
-use Rattle.script.specs.declared.location.Location.{Location}
-use Rattle.script.specs.declared.location.Location.the-variants as location
+use Rattle.script_lex.specs.declared.lex.Number.{Number}
+use Rattle.script_lex.specs.declared.lex.Number.the-variants as number
+use Rattle.script_lex.specs.declared.lex.Signed.{Signed}
+use Rattle.script_lex.specs.declared.lex.Signed.the-variants as signed
+use Rattle.script_lex.specs.declared.arguments.Flag.{Flag}
+use Rattle.script_lex.specs.declared.arguments.Flag.the-variants as flag
+use Rattle.script_lex.specs.declared.arguments.Two.{Two}
+use Rattle.script_lex.specs.declared.arguments.Two.the-variants as two
+use Rattle.script_lex.specs.declared.arguments.Three.{Three}
+use Rattle.script_lex.specs.declared.arguments.Three.the-variants as three
+use Rattle.script_lex.specs.declared.location.Arch.{Arch}
+use Rattle.script_lex.specs.declared.location.Arch.the-variants as arch
+use Rattle.script_lex.specs.declared.location.Backing.{Backing}
+use Rattle.script_lex.specs.declared.location.Backing.the-variants as backing
+use Rattle.script_lex.specs.declared.location.Location.{Location}
+use Rattle.script_lex.specs.declared.location.Location.the-variants as location
 use Rattle.script.specs.declared.wait.Pairs.{Pairs}
 use Rattle.script.specs.declared.wait.Pairs.the-variants as pairs
-use Rattle.script.specs.declared.command.Command.{Command}
-use Rattle.script.specs.declared.command.Command.the-variants as command
-use Rattle.script.specs.Names as name
-use Rattle.script.specs.Words.{first, others, none, same, wordsOf}
-use Rattle.script.specs.Numbers.{numberOf, signedOf, plus, minus}
-use Rattle.script.specs.Arguments.{most, flagOf, oneOf, joinTwo, twoOf, joinThree, threeOf, withOne, withTwo, withThree, bareLine}
-use Rattle.script.specs.Location.{architectureOf, imageOf, poolOf, imageLine, poolLine, backingOf, placed, locationOf, behindLocation, withLocation}
-use Rattle.script.specs.Timers.{manualOf, manualBehind, initializeTimerLine, setOf, setBehind, setTimerLine, timerMemoryLine, timerLine}
-use Rattle.script.specs.Dpc.{routineBehind, initializeDpcLine, dpcWorkLine, dpcLine}
-use Rattle.script.specs.Clock.{newOf, newBehind, newLine, advanceLine, clockLine}
+use Rattle.script_lex.specs.declared.command.Command.{Command}
+use Rattle.script_lex.specs.declared.command.Command.the-variants as command
+use Rattle.script_lex.specs.Names as name
+use Rattle.script_lex.specs.Words.{first, others, none, same, wordsOf}
+use Rattle.script_lex.specs.Numbers.{numberOf, signedOf, plus, minus}
+use Rattle.script_lex.specs.Arguments.{most, flagOf, oneOf, joinTwo, twoOf, joinThree, threeOf, withOne, withTwo, withThree, bareLine}
+use Rattle.script_lex.specs.Location.{architectureOf, imageOf, poolOf, imageLine, poolLine, backingOf, placed, locationOf, behindLocation, withLocation}
+use Rattle.script_timers.specs.Timers.{manualOf, manualBehind, initializeTimerLine, setOf, setBehind, setTimerLine, timerMemoryLine, timerLine}
+use Rattle.script_timers.specs.Dpc.{routineBehind, initializeDpcLine, dpcWorkLine, dpcLine}
+use Rattle.script_timers.specs.Clock.{newOf, newBehind, newLine, advanceLine, clockLine}
 use Rattle.script.specs.Scheduler.{withFlags, flagged, eventLine, ownedBy, adoptLine, threadLine, eventsLine, mutexLine, shortLine}
 use Rattle.script.specs.Wait as wait
 use Rattle.script.specs.Wait.{Taken, taken, Paired, paired, itemOf, kindOf, pairsOf, isRead, waitCommand, withIrql, waitFrom, withDeadline, waitUntil, waitLine}
 use Rattle.script.specs.Line.{textLength, textLine, readLine}
-use Rattle.script.proofs.NumberLaws.{within}
+use Rattle.script_lex.proofs.NumberLaws.{within}
 use Rattle.model.specs.Fits.{U64, U64s, U64?, I32, BackingFits}
 use Rattle.calls.specs.Called.{optional}
 use Rattle.model.specs.Call as call

@@ -25,7 +25,7 @@ use Rattle.threads.specs.Thread.{threadCount}
 use Rattle.dispatcher.specs.Dispatch.{Dispatched, listedIn, listed, listedTo, noted, notedTo, isWaiting}
 use Rattle.dispatcher.specs.TimerDue.{nextTime}
 use Rattle.dispatcher.specs.Dispatched.{dispatched}
-use Rattle.script.specs.Print.{bareAnswer}
+use Rattle.script_print.specs.Print.{bareAnswer}
 use Rattle.opening.specs.Open as words
 use Rattle.form.specs.Form.{inForm}
 use Rattle.model.specs.State.{State}

@@ -2,7 +2,7 @@
 use Prim.Native.Nat.{ℕ}
 use mathlib.Core.List.{List, [], _∷_}
 use mathlib.Core.Bool.{false}
-use Rattle.script.specs.Text.{bytesOf}
+use Rattle.script_lex.specs.Text.{bytesOf}
 use Rattle.model.specs.Answer.{Answer, Done, ThreadNumber, Blocked, Run, Flag}
 
 unfoldable pub script : List (List ℕ)

@@ -2,7 +2,7 @@
 use Prim.Native.Nat.{ℕ}
 use mathlib.Core.List.{List, [], _∷_}
 use Rattle.answers.specs.declared.Answer as code
-use Rattle.script.specs.declared.command.Command.{Command}
+use Rattle.script_lex.specs.declared.command.Command.{Command}
 use Rattle.script.specs.Line.{readLine}
 use Rattle.model.specs.Answer.{Answer}
 use Rattle.call_answers.specs.Told.{told, toldWith}

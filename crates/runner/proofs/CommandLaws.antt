@@ -9,9 +9,9 @@ use Rattle.answers.specs.declared.Answer.{Answer}
 use Rattle.answers.specs.declared.Answer.the-variants as answer
 use Rattle.answers.proofs.Answer as answers
 use Rattle.answers.specs.Outcome.{outcome}
-use Rattle.script.specs.declared.command.Command.{Command}
-use Rattle.script.specs.declared.command.Command.the-variants as command
-use Rattle.script.proofs.command.Command.{the-type}
+use Rattle.script_lex.specs.declared.command.Command.{Command}
+use Rattle.script_lex.specs.declared.command.Command.the-variants as command
+use Rattle.script_lex.proofs.command.Command.{the-type}
 use Rattle.runner.specs.declared.session.Session.{Session}
 use Rattle.runner.specs.declared.session.Step.{Step}
 use lib.Dec.{ltb}

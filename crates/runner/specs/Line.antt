@@ -3,7 +3,7 @@ use mathlib.Core.List.{List}
 use Prim.Native.Nat.{ℕ}
 use Rattle.script.specs.Line.{readLine}
 use Rattle.script.specs.Wait.{Taken}
-use Rattle.script.specs.Print.{printed, answerLine, Written}
+use Rattle.script_print.specs.Print.{printed, answerLine, Written}
 use Rattle.runner.specs.declared.session.Session.{Session}
 use Rattle.runner.specs.declared.lines.Answered as code
 use Rattle.runner.specs.Session.{Performed, performed}

@@ -22,9 +22,9 @@ use Rattle.dpc_work.specs.declared.WorkAnswer.{WorkAnswer}
 use Rattle.dpc_work.specs.declared.WorkAnswer.the-variants as work
 use Rattle.dispatcher.specs.Dispatch.{Dispatched}
 use Rattle.dpc_work.specs.Work.{Started}
-use Rattle.script.specs.declared.command.Command.{Command}
-use Rattle.script.specs.declared.command.Command.the-variants as command
-use Rattle.script.specs.Print.{bareAnswer}
+use Rattle.script_lex.specs.declared.command.Command.{Command}
+use Rattle.script_lex.specs.declared.command.Command.the-variants as command
+use Rattle.script_print.specs.Print.{bareAnswer}
 use Rattle.model.specs.Call.{Call}
 use Rattle.model.specs.Call as call
 use Rattle.calls.specs.Guard as kind

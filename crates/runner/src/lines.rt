@@ -42,11 +42,11 @@ pub fn answer_line(
     ensures { λ r. ⌜ answeredAs r (now (w .exit)) (now (waiting .exit)) (now (list .exit)) (now (text .exit)) ≡ answered (now (w .entry)) (now (waiting .entry)) (now (list .entry)) (now (line .entry)) (now (text .entry)) number s ⌝ }
     ensures { λ r. ⌜ r .length ≤ length (now (text .exit)) ⌝ }
 {
-    let c = script::command::read_line(line, list);
+    let c = script::read_line(line, list);
     let step = session::perform(w, waiting, list, s, c);
     let answer = step.answer;
     let next = step.session;
-    let end = script::print::write_answer(text, number, answer, waiting);
+    let end = script_print::write_answer(text, number, answer, waiting);
     Answered {
         length: end,
         session: next,

@@ -16,8 +16,8 @@ use scheduler::changes;
 use scheduler::dpc_calls;
 use scheduler::reads;
 use scheduler::timer_calls;
-use script::command::Command;
-use script::print::bare;
+use script_lex::command::Command;
+use script_print::bare;
 
 // Threads, objects and DPCs of a script's scheduler. It needs 6912 words.
 pub const THREADS: u64 = 16;

@@ -1,10 +1,3 @@
-pub mod Cases
-pub mod WordLaws
-pub mod NumberLaws
-pub mod SignedLaws
 pub mod WaitLaws
-pub mod PrintLaws
-pub mod BareLaws
-pub mod RoundTrip
-pub mod RoomLaws
+pub mod LineLaws
 pub mod Samples

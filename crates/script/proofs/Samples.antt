@@ -1,24 +1,22 @@
--- Lines read and answers written, among them those of document 01's script.
+-- Lines read, among them those of document 01's script.
 use mathlib.Core.Path.{_≡_, refl}
 use mathlib.Core.Bool.{true, false}
 use mathlib.Core.List.{[], _∷_}
 use lib.IntN.{pos, negsuc}
 use Rattle.arch.specs.declared.Architecture.the-variants as architecture
 use Rattle.images.specs.declared.TimerBacking.the-variants as memory
-use Rattle.answers.specs.declared.Answer.the-variants as answer
-use Rattle.script.specs.declared.command.Command.the-variants as command
-use Rattle.script.specs.Text.{bytesOf}
-use Rattle.script.specs.Words.{blank, grown, pieces, full, wordsOf, first, others, none, same}
-use Rattle.script.specs.Numbers.{allDigits, value, numberFrom, numberOf, plus, minus, signedOf}
-use Rattle.script.specs.Arguments.{flagOf, oneOf, joinTwo, twoOf, joinThree, threeOf, withOne, withTwo, withThree, bareLine}
+use Rattle.script_lex.specs.declared.command.Command.the-variants as command
+use Rattle.script_lex.specs.Text.{bytesOf}
+use Rattle.script_lex.specs.Words.{blank, grown, pieces, full, wordsOf, first, others, none, same}
+use Rattle.script_lex.specs.Numbers.{allDigits, value, numberFrom, numberOf, plus, minus, signedOf}
+use Rattle.script_lex.specs.Arguments.{flagOf, oneOf, joinTwo, twoOf, joinThree, threeOf, withOne, withTwo, withThree, bareLine}
 use Rattle.script.specs.Wait.{kindOf, itemOf, isRead, told, pairsOf, taken, waitCommand, withIrql, waitFrom, withDeadline, waitUntil, waitLine}
-use Rattle.script.specs.Clock.{newOf, newBehind, newLine, advanceLine, clockLine}
-use Rattle.script.specs.Location.{architectureOf, imageOf, poolOf, imageLine, poolLine, backingOf, behindBacking, placed, locationOf, behindLocation, withLocation}
-use Rattle.script.specs.Dpc.{routineBehind, initializeDpcLine, dpcWorkLine, dpcLine}
-use Rattle.script.specs.Timers.{manualOf, manualBehind, initializeTimerLine, setOf, setBehind, setTimerLine, timerMemoryLine, timerLine}
+use Rattle.script_timers.specs.Clock.{newOf, newBehind, newLine, advanceLine, clockLine}
+use Rattle.script_lex.specs.Location.{architectureOf, imageOf, poolOf, imageLine, poolLine, backingOf, behindBacking, placed, locationOf, behindLocation, withLocation}
+use Rattle.script_timers.specs.Dpc.{routineBehind, initializeDpcLine, dpcWorkLine, dpcLine}
+use Rattle.script_timers.specs.Timers.{manualOf, manualBehind, initializeTimerLine, setOf, setBehind, setTimerLine, timerMemoryLine, timerLine}
 use Rattle.script.specs.Scheduler.{withFlags, flagged, eventLine, ownedBy, adoptLine, threadLine, eventsLine, mutexLine, shortLine}
 use Rattle.script.specs.Line.{textLength, textLine, readLine}
-use Rattle.script.specs.Print.{decimalIn, spaced, flagText, answerText, answerLine, bareAnswer}
 
 reads :
     (readLine (bytesOf "open 8") ([]) ≡ taken (command.Open 8) ([]))
@@ -92,16 +90,3 @@ timerReads :
     × (readLine (bytesOf "next_dpc") ([]) ≡ taken (command.Unread) ([]))
 unfolding blank grown pieces full wordsOf first others none same allDigits value numberFrom numberOf plus minus signedOf flagOf oneOf joinTwo twoOf joinThree threeOf withOne withTwo withThree bareLine kindOf itemOf isRead told pairsOf waitCommand withIrql waitFrom withDeadline waitUntil waitLine newOf newBehind newLine advanceLine clockLine withFlags flagged eventLine ownedBy adoptLine threadLine eventsLine mutexLine shortLine textLength textLine readLine architectureOf imageOf poolOf imageLine poolLine backingOf behindBacking placed locationOf behindLocation withLocation routineBehind initializeDpcLine dpcWorkLine dpcLine manualOf manualBehind initializeTimerLine setOf setBehind setTimerLine timerMemoryLine timerLine
 timerReads = (refl, refl, refl, refl, refl, refl, refl, refl, refl, refl, refl, refl, refl, refl, refl, refl, refl, refl, refl, refl, refl, refl, refl, refl, refl, refl, refl, refl, refl, refl, refl, refl, refl, refl, refl, refl, refl)
-
-writes :
-    (answerLine 1 answer.Done ([]) ≡ bytesOf "1 ok\n")
-    × (answerLine 3 (answer.Thread 2) ([]) ≡ bytesOf "3 thread 2\n")
-    × (answerLine 4 answer.Blocked ([]) ≡ bytesOf "4 blocked\n")
-    × (answerLine 5 (answer.Run 2) ([]) ≡ bytesOf "5 run 2\n")
-    × (answerLine 6 (answer.Flag false) ([]) ≡ bytesOf "6 no\n")
-    × (answerLine 10 (bareAnswer (answer.Thread 2)) ([]) ≡ bytesOf "10 2\n")
-    × (answerLine 120 (answer.Deadlocked 2) (2 ∷ 15 ∷ 9 ∷ []) ≡ bytesOf "120 deadlocked 2 15\n")
-    × (answerLine 7 (answer.Refused 28) ([]) ≡ bytesOf "7 refused 28\n")
-    × (answerLine 8 (answer.Count 18446744073709551615) ([]) ≡ bytesOf "8 18446744073709551615\n")
-unfolding decimalIn spaced flagText answerText answerLine bareAnswer
-writes = (refl, refl, refl, refl, refl, refl, refl, refl, refl)

@@ -5,9 +5,9 @@ use mathlib.Core.List.{List, [], _∷_}
 use Prim.Native.Nat.{ℕ, _+_, _≤_, _<_}
 use borrow.Author.Tests.{lt-ltb, le-ltb}
 use lib.ListN.{length, set}
-use Rattle.script.specs.declared.lex.Number.the-variants as number
+use Rattle.script_lex.specs.declared.lex.Number.the-variants as number
 use Rattle.script.specs.declared.wait.Pairs.the-variants as pairs
-use Rattle.script.specs.Words.{first, others, none}
+use Rattle.script_lex.specs.Words.{first, others, none}
 use Rattle.script.specs.Wait.{itemOf, paired, isRead, told, pairsOf}
 
 pub pairs-end : (ws : List (List ℕ)) (i : ℕ) (l : List ℕ) → none ws ≡ true → pairsOf ws i l ≡ paired (pairs.Count i) l

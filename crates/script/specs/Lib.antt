@@ -1,13 +1,3 @@
-pub mod Text
-pub mod Words
-pub mod Numbers
-pub mod Names
-pub mod Arguments
 pub mod Wait
-pub mod Clock
-pub mod Location
-pub mod Dpc
-pub mod Timers
 pub mod Scheduler
 pub mod Line
-pub mod Print

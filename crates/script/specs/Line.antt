@@ -4,9 +4,9 @@ use mathlib.Core.List.{List}
 use Prim.Native.Nat.{ℕ, _-_}
 use lib.Dec.{eqb, ltb}
 use lib.ListN.{length, getD, take}
-use Rattle.script.specs.declared.command.Command.the-variants as command
-use Rattle.script.specs.Names as name
-use Rattle.script.specs.Words.{wordsOf, first, others, same}
+use Rattle.script_lex.specs.declared.command.Command.the-variants as command
+use Rattle.script_lex.specs.Names as name
+use Rattle.script_lex.specs.Words.{wordsOf, first, others, same}
 use Rattle.script.specs.Wait.{Taken, taken, waitLine}
 use Rattle.script.specs.Scheduler.{shortLine}
 

@@ -2,16 +2,16 @@
 use mathlib.Core.Bool.{cond, true, false}
 use mathlib.Core.List.{List}
 use Prim.Native.Nat.{ℕ}
-use Rattle.script.specs.declared.arguments.Flag.{Flag}
-use Rattle.script.specs.declared.arguments.Flag.the-variants as flag
-use Rattle.script.specs.declared.command.Command.{Command}
-use Rattle.script.specs.declared.command.Command.the-variants as command
-use Rattle.script.specs.Names as name
-use Rattle.script.specs.Words.{first, others, same}
-use Rattle.script.specs.Numbers.{numberOf}
-use Rattle.script.specs.Arguments.{most, flagOf, oneOf, twoOf, threeOf, withOne, withTwo, withThree, bareLine}
-use Rattle.script.specs.Clock.{clockLine}
-use Rattle.script.specs.Timers.{timerLine}
+use Rattle.script_lex.specs.declared.arguments.Flag.{Flag}
+use Rattle.script_lex.specs.declared.arguments.Flag.the-variants as flag
+use Rattle.script_lex.specs.declared.command.Command.{Command}
+use Rattle.script_lex.specs.declared.command.Command.the-variants as command
+use Rattle.script_lex.specs.Names as name
+use Rattle.script_lex.specs.Words.{first, others, same}
+use Rattle.script_lex.specs.Numbers.{numberOf}
+use Rattle.script_lex.specs.Arguments.{most, flagOf, oneOf, twoOf, threeOf, withOne, withTwo, withThree, bareLine}
+use Rattle.script_timers.specs.Clock.{clockLine}
+use Rattle.script_timers.specs.Timers.{timerLine}
 
 -- ---- the words behind the name of a line
 

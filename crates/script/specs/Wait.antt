@@ -4,16 +4,16 @@ use mathlib.Core.List.{List, [], _∷_}
 use Prim.Native.Nat.{ℕ, _+_, _%_}
 use lib.Dec.{eqb, ltb}
 use lib.ListN.{length, set}
-use Rattle.script.specs.declared.lex.Number.{Number}
-use Rattle.script.specs.declared.lex.Number.the-variants as number
+use Rattle.script_lex.specs.declared.lex.Number.{Number}
+use Rattle.script_lex.specs.declared.lex.Number.the-variants as number
 use Rattle.script.specs.declared.wait.Pairs.{Pairs}
 use Rattle.script.specs.declared.wait.Pairs.the-variants as pairs
-use Rattle.script.specs.declared.command.Command.{Command}
-use Rattle.script.specs.declared.command.Command.the-variants as command
-use Rattle.script.specs.Names as name
-use Rattle.script.specs.Words.{first, others, same}
-use Rattle.script.specs.Numbers.{numberOf}
-use Rattle.script.specs.Arguments.{most}
+use Rattle.script_lex.specs.declared.command.Command.{Command}
+use Rattle.script_lex.specs.declared.command.Command.the-variants as command
+use Rattle.script_lex.specs.Names as name
+use Rattle.script_lex.specs.Words.{first, others, same}
+use Rattle.script_lex.specs.Numbers.{numberOf}
+use Rattle.script_lex.specs.Arguments.{most}
 
 unfoldable pub kindOf : List ℕ → Number
 kindOf w =

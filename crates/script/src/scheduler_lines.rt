@@ -1,18 +1,18 @@
 // The lines of the scheduler's calls, by their first word. Each reader of one line starts behind that word.
 ghost use mathlib.Core.Path.{_≡_};
-ghost use Rattle.script.specs.Words.{wordsAt, first};
-ghost use Rattle.script.specs.Arguments.{most, oneOf, twoOf, threeOf, withOne, withTwo, withThree};
+ghost use Rattle.script_lex.specs.Words.{wordsAt, first};
+ghost use Rattle.script_lex.specs.Arguments.{most, oneOf, twoOf, threeOf, withOne, withTwo, withThree};
 ghost use Rattle.script.specs.Scheduler.{flagged, eventLine, ownedBy, adoptLine, shortLine, mutexLine, eventsLine, threadLine};
-ghost use Rattle.script.specs.declared.command.Command.the-variants as command;
-use super::arguments;
-use super::arguments::Flag;
-use super::arguments::Three;
-use super::arguments::Two;
-use super::clock_lines;
-use super::command::Command;
-use super::lex;
-use super::lex::Number;
-use super::timer_lines;
+ghost use Rattle.script_lex.specs.declared.command.Command.the-variants as command;
+use script_lex::arguments;
+use script_lex::arguments::Flag;
+use script_lex::arguments::Three;
+use script_lex::arguments::Two;
+use script_lex::command::Command;
+use script_lex::lex;
+use script_lex::lex::Number;
+use script_timers::clock_lines;
+use script_timers::timer_lines;
 
 fn read_open(line: &[u8], at: usize) -> Command
     ensures { λ r. ⌜ r ≡ withOne command.Open (oneOf 255 (wordsAt (now (line .entry)) at)) ⌝ }

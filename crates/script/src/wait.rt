@@ -1,10 +1,10 @@
 // The line of a wait: `any` or `all`, the deadline, the IRQL, and pairs of a kind and a key, which go into the lent list.
 ghost use mathlib.Core.Path.{_≡_};
-ghost use Rattle.script.specs.Words.{wordsAt, first};
+ghost use Rattle.script_lex.specs.Words.{wordsAt, first};
 ghost use Rattle.script.specs.Wait.{kindOf, itemOf, paired, pairsOf, taken, waitFrom, waitUntil, waitLine};
-use super::command::Command;
-use super::lex;
-use super::lex::Number;
+use script_lex::command::Command;
+use script_lex::lex;
+use script_lex::lex::Number;
 
 // How many numbers the pairs are.
 pub enum Pairs {

@@ -5,8 +5,8 @@ use Rattle.runner.proofs.lines.answer_line.Tie as tie
 use Rattle.runner.proofs.lines.answer_line.Reads as reads
 use Rattle.runner.proofs.lines.answer_line.Lts as lts
 use Rattle.runner.proofs.session.perform.Reads as perform-reads
-use Rattle.script.proofs.command.read_line.Reads as read-line-reads
-use Rattle.script.proofs.print.write_answer.Reads as write-answer-reads
+use Rattle.script.proofs.read_line.Reads as read-line-reads
+use Rattle.script_print.proofs.write_answer.Reads as write-answer-reads
 
 -- src/lines.rt:43:9
 read-line-requires : tie.Need-read-line-requires

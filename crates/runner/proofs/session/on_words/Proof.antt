@@ -44,7 +44,7 @@ use Rattle.scheduler.proofs.timer_calls.set_timer.Reads as set-timer-reads
 use Rattle.scheduler.proofs.timer_calls.timer_initializations.Reads as timer-initializations-reads
 use Rattle.scheduler.proofs.timer_calls.timer_metadata_overlap.Reads as timer-metadata-overlap-reads
 use Rattle.scheduler.proofs.timer_calls.timer_read_overlap.Reads as timer-read-overlap-reads
-use Rattle.script.proofs.print.bare.Reads as bare-reads
+use Rattle.script_print.proofs.bare.Reads as bare-reads
 
 -- src/session.rt:178:26
 enum-known-c : tie.Need-enum-known-c

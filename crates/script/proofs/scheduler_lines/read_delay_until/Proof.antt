@@ -1,7 +1,7 @@
 use mathlib.Core.Path.{_∙_, sym}
-use Rattle.script.specs.Arguments.{withTwo}
+use Rattle.script_lex.specs.Arguments.{withTwo}
 use native.Mathlib.Omega.{arith}
-use Rattle.script.proofs.NumberLaws.{last-within}
+use Rattle.script_lex.proofs.NumberLaws.{last-within}
 use borrow.Author.Needs.{needs}
 use Rattle.script.proofs.scheduler_lines.read_delay_until.Statement.{statement}
 use Rattle.script.proofs.scheduler_lines.read_delay_until.Tie as tie

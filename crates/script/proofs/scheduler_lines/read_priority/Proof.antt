@@ -1,5 +1,5 @@
 use mathlib.Core.Path.{_∙_, sym}
-use Rattle.script.specs.Arguments.{withTwo}
+use Rattle.script_lex.specs.Arguments.{withTwo}
 use borrow.Author.Needs.{needs}
 use Rattle.script.proofs.scheduler_lines.read_priority.Statement.{statement}
 use Rattle.script.proofs.scheduler_lines.read_priority.Tie as tie

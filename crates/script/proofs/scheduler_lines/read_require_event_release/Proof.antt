@@ -1,5 +1,5 @@
 use mathlib.Core.Path.{_∙_, sym}
-use Rattle.script.specs.Arguments.{withThree}
+use Rattle.script_lex.specs.Arguments.{withThree}
 use borrow.Author.Needs.{needs}
 use Rattle.script.proofs.scheduler_lines.read_require_event_release.Statement.{statement}
 use Rattle.script.proofs.scheduler_lines.read_require_event_release.Tie as tie

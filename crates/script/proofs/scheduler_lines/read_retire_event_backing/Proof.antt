@@ -1,5 +1,5 @@
 use mathlib.Core.Path.{_∙_, sym}
-use Rattle.script.specs.Arguments.{withThree}
+use Rattle.script_lex.specs.Arguments.{withThree}
 use borrow.Author.Needs.{needs}
 use Rattle.script.proofs.scheduler_lines.read_retire_event_backing.Statement.{statement}
 use Rattle.script.proofs.scheduler_lines.read_retire_event_backing.Tie as tie

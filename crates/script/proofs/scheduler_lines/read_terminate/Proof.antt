@@ -1,7 +1,7 @@
 use mathlib.Core.Path.{_∙_, sym}
-use Rattle.script.specs.Arguments.{withOne}
+use Rattle.script_lex.specs.Arguments.{withOne}
 use native.Mathlib.Omega.{arith}
-use Rattle.script.proofs.NumberLaws.{one-within}
+use Rattle.script_lex.proofs.NumberLaws.{one-within}
 use borrow.Author.Needs.{needs}
 use Rattle.script.proofs.scheduler_lines.read_terminate.Statement.{statement}
 use Rattle.script.proofs.scheduler_lines.read_terminate.Tie as tie

@@ -1,7 +1,7 @@
 use mathlib.Core.Path.{_∙_, sym}
 use native.Mathlib.Omega.{arith}
 use Rattle.script.specs.Wait.{waitFrom, withIrql, waitCommand}
-use Rattle.script.proofs.NumberLaws.{within}
+use Rattle.script_lex.proofs.NumberLaws.{within}
 use borrow.Author.Needs.{needs}
 use Rattle.script.proofs.wait.read_irql.Statement.{statement}
 use Rattle.script.proofs.wait.read_irql.Tie as tie

@@ -2,7 +2,7 @@ use lib.ListN.{length-set, length}
 use denote.Ref.{now}
 use mathlib.Core.Path.{_≡_, refl, sym, _∙_}
 use Prim.Native.Nat.{_-_, _≤_}
-use Rattle.script.specs.Words.{wordsAt}
+use Rattle.script_lex.specs.Words.{wordsAt}
 use Rattle.script.specs.Wait.{pairsOf}
 use Rattle.script.proofs.WaitLaws.{pairs-end, pairs-full, pairs-stop, pairs-more}
 use borrow.Author.Needs.{needs}

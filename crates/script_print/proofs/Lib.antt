@@ -1,0 +1,5 @@
+pub mod PrintLaws
+pub mod BareLaws
+pub mod RoundTrip
+pub mod RoomLaws
+pub mod Samples

@@ -1,0 +1,26 @@
+use mathlib.Core.Path.{_∙_, sym}
+use Rattle.script_lex.specs.Arguments.{withThree}
+use borrow.Author.Needs.{needs}
+use Rattle.script_timers.proofs.dpc_lines.read_insert_queue_dpc.Statement.{statement}
+use Rattle.script_timers.proofs.dpc_lines.read_insert_queue_dpc.Tie as tie
+
+three-numbers-requires : tie.Need-three-numbers-requires
+three-numbers-requires c κs = search needs
+
+enum-told : tie.Need-enum-told
+enum-told c = search needs
+
+enum-known-address : tie.Need-enum-known-address
+enum-known-address c = search needs
+
+returns : tie.Need-returns
+unfolding withThree
+returns c = simp (sym (c .before .before .three-numbers .ensures) ∙ c .enum-told .given .1)
+
+returns-2 : tie.Need-returns-2
+unfolding withThree
+returns-2 c = simp (sym (c .before .before .before .three-numbers .ensures) ∙ c .before .address .given .1)
+
+pub read-insert-queue-dpc-spec : {M : Type 1} → statement M
+read-insert-queue-dpc-spec =
+    tie.close (tie.spec three-numbers-requires enum-told enum-known-address returns returns-2)
