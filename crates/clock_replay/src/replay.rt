@@ -1,6 +1,6 @@
-// The steps of a sample, run on seven words through the exported calls.
+// The steps of a sample, run on seven words through the clock's calls.
 use super::decimal;
-use exports::clock_calls;
+use clock_words::operations;
 
 pub struct Tally {
     pub steps: u64,
@@ -52,22 +52,22 @@ fn call(clock: &mut [u64], out: &mut [u64], step: &[u64]) -> u64 {
     let a = words::get(step, 1);
     let b = words::get(step, 2);
     match op {
-        0 => clock_calls::clock_new(
+        0 => operations::new(
             clock,
             a,
             b,
             minutes(words::get(step, 3)),
             low(words::get(step, 4)),
         ),
-        1 => clock_calls::clock_instruction(clock),
-        2 => clock_calls::clock_flush_cycles(clock),
-        3 => clock_calls::clock_observe(clock),
-        4 => clock_calls::clock_advance_microseconds(clock, a),
-        5 => clock_calls::clock_advance_100ns(clock, a),
-        6 => clock_calls::clock_advance_milliseconds(clock, low(a)),
-        7 => clock_calls::clock_qpc(clock, out),
-        8 => clock_calls::clock_tick64(clock, out),
-        9 => clock_calls::clock_tsc(clock, out),
+        1 => operations::instruction(clock),
+        2 => operations::flush_cycles(clock),
+        3 => operations::observe(clock),
+        4 => operations::advance_microseconds(clock, a),
+        5 => operations::advance_100ns(clock, a),
+        6 => operations::advance_milliseconds(clock, low(a)),
+        7 => operations::qpc(clock, out),
+        8 => operations::tick64(clock, out),
+        9 => operations::tsc(clock, out),
         10 => {
             words::put(clock, a as usize, b);
             0

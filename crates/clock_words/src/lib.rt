@@ -11,6 +11,8 @@ use clock::Outcome;
 use clock::Reading;
 use clock::core;
 
+pub mod operations;
+
 fn fitted_u32(word: u64, other: u32) -> u32
     ensures { λ r. ⌜ r ≡ fitted 4294967295 word other ⌝ }
 {
@@ -47,7 +49,7 @@ fn offset_word(c: GuestClock) -> u64
     (minutes + 840) as u64
 }
 
-pub fn load(w: &[u64]) -> GuestClock
+fn load(w: &[u64]) -> GuestClock
     ensures { λ r. ⌜ r ≡ clockAt (now (w .entry)) ⌝ }
 {
     let utc_filetime = words::get(w, 0);
@@ -68,7 +70,7 @@ pub fn load(w: &[u64]) -> GuestClock
     }
 }
 
-pub fn store(w: &mut [u64], c: GuestClock)
+fn store(w: &mut [u64], c: GuestClock)
     ensures { λ r. ⌜ now (w .exit) ≡ putClock (now (w .entry)) c ⌝ }
 {
     let ticks = c.submillisecond_100ns as u64;
@@ -84,7 +86,7 @@ pub fn store(w: &mut [u64], c: GuestClock)
     words::put(w, 6, countdown);
 }
 
-pub fn error_number(why: ClockError) -> u64
+fn error_number(why: ClockError) -> u64
     ensures { λ r. ⌜ r ≡ errorNumber why ⌝ }
 {
     match why {
@@ -104,7 +106,7 @@ fn refusal_number(answer: Done) -> u64
 }
 
 // A clock that was out of form is not put back: its words may hold what no clock does.
-pub fn end(w: &mut [u64], after: Outcome) -> u64
+fn end(w: &mut [u64], after: Outcome) -> u64
     ensures { λ r. ⌜ returned r (now (w .exit)) ≡ ended (now (w .entry)) after ⌝ }
 {
     let answer = after.answer;
@@ -117,7 +119,7 @@ pub fn end(w: &mut [u64], after: Outcome) -> u64
     number
 }
 
-pub fn answer(out: &mut [u64], reading: Reading) -> u64
+fn answer(out: &mut [u64], reading: Reading) -> u64
     ensures { λ r. ⌜ returned r (now (out .exit)) ≡ answered (now (out .entry)) reading ⌝ }
 {
     if out.len() < 1 {

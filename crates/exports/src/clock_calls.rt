@@ -3,13 +3,7 @@ ghost use mathlib.Core.Path.{_≡_};
 ghost use Rattle.clock.specs.Clock.{created, instruction, flushCycles, observe, advanceMicroseconds, advance100ns, advanceMilliseconds, qpc, tick64, tsc};
 ghost use Rattle.clock.specs.declared.GuestClock.{GuestClock};
 ghost use Rattle.clock_words.specs.ClockWords.{returned, opened, changed, readInto};
-use clock::Created;
-use clock::core;
-use clock_words::answer;
-use clock_words::end;
-use clock_words::error_number;
-use clock_words::load;
-use clock_words::store;
+use clock_words::operations;
 
 #[no_mangle]
 pub extern "C" fn clock_new(
@@ -21,83 +15,68 @@ pub extern "C" fn clock_new(
 ) -> u64
     ensures { λ r. ⌜ returned r (now (words .exit)) ≡ opened (now (words .entry)) (created «utc_filetime» «uptime_ms» «utc_offset_minutes» «base_mhz») ⌝ }
 {
-    match core::new(utc_filetime, uptime_ms, utc_offset_minutes, base_mhz) {
-        Created::Err(why) => error_number(why),
-        Created::Ok(c) => {
-            if words.len() < 7 {
-                return 27;
-            }
-            store(words, c);
-            0
-        }
-    }
+    operations::new(words, utc_filetime, uptime_ms, utc_offset_minutes, base_mhz)
 }
 
 #[no_mangle]
 pub extern "C" fn clock_instruction(words: &mut [u64]) -> u64
     ensures { λ r. ⌜ returned r (now (words .exit)) ≡ changed instruction (now (words .entry)) ⌝ }
 {
-    let after = core::instruction(load(words));
-    end(words, after)
+    operations::instruction(words)
 }
 
 #[no_mangle]
 pub extern "C" fn clock_flush_cycles(words: &mut [u64]) -> u64
     ensures { λ r. ⌜ returned r (now (words .exit)) ≡ changed flushCycles (now (words .entry)) ⌝ }
 {
-    let after = core::flush_cycles(load(words));
-    end(words, after)
+    operations::flush_cycles(words)
 }
 
 #[no_mangle]
 pub extern "C" fn clock_observe(words: &mut [u64]) -> u64
     ensures { λ r. ⌜ returned r (now (words .exit)) ≡ changed observe (now (words .entry)) ⌝ }
 {
-    let after = core::observe(load(words));
-    end(words, after)
+    operations::observe(words)
 }
 
 #[no_mangle]
 pub extern "C" fn clock_advance_microseconds(words: &mut [u64], amount: u64) -> u64
     ensures { λ r. ⌜ returned r (now (words .exit)) ≡ changed (λ (c : GuestClock). advanceMicroseconds c amount) (now (words .entry)) ⌝ }
 {
-    let after = core::advance_microseconds(load(words), amount);
-    end(words, after)
+    operations::advance_microseconds(words, amount)
 }
 
 #[no_mangle]
 pub extern "C" fn clock_advance_100ns(words: &mut [u64], ticks: u64) -> u64
     ensures { λ r. ⌜ returned r (now (words .exit)) ≡ changed (λ (c : GuestClock). advance100ns c ticks) (now (words .entry)) ⌝ }
 {
-    let after = core::advance_100ns(load(words), ticks);
-    end(words, after)
+    operations::advance_100ns(words, ticks)
 }
 
 #[no_mangle]
 pub extern "C" fn clock_advance_milliseconds(words: &mut [u64], amount: u32) -> u64
     ensures { λ r. ⌜ returned r (now (words .exit)) ≡ changed (λ (c : GuestClock). advanceMilliseconds c amount) (now (words .entry)) ⌝ }
 {
-    let after = core::advance_milliseconds(load(words), amount);
-    end(words, after)
+    operations::advance_milliseconds(words, amount)
 }
 
 #[no_mangle]
 pub extern "C" fn clock_qpc(words: &[u64], out: &mut [u64]) -> u64
     ensures { λ r. ⌜ returned r (now (out .exit)) ≡ readInto qpc (now (words .entry)) (now (out .entry)) ⌝ }
 {
-    answer(out, core::qpc(load(words)))
+    operations::qpc(words, out)
 }
 
 #[no_mangle]
 pub extern "C" fn clock_tick64(words: &[u64], out: &mut [u64]) -> u64
     ensures { λ r. ⌜ returned r (now (out .exit)) ≡ readInto tick64 (now (words .entry)) (now (out .entry)) ⌝ }
 {
-    answer(out, core::tick64(load(words)))
+    operations::tick64(words, out)
 }
 
 #[no_mangle]
 pub extern "C" fn clock_tsc(words: &[u64], out: &mut [u64]) -> u64
     ensures { λ r. ⌜ returned r (now (out .exit)) ≡ readInto tsc (now (words .entry)) (now (out .entry)) ⌝ }
 {
-    answer(out, core::tsc(load(words)))
+    operations::tsc(words, out)
 }

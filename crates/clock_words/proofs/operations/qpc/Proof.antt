@@ -1,7 +1,7 @@
 use Rattle.clock_words.specs.ClockWords.{readInto}
 use borrow.Author.Needs.{needs}
-use Rattle.exports.proofs.clock_calls.clock_qpc.Statement.{statement}
-use Rattle.exports.proofs.clock_calls.clock_qpc.Tie as tie
+use Rattle.clock_words.proofs.operations.qpc.Statement.{statement}
+use Rattle.clock_words.proofs.operations.qpc.Tie as tie
 
 load-requires : tie.Need-load-requires
 load-requires c κs = search needs
@@ -19,6 +19,6 @@ returns : tie.Need-returns
 unfolding readInto
 returns c = cc
 
-pub clock-qpc-spec : {M : Type 1} → statement M
-clock-qpc-spec =
+pub qpc-spec : {M : Type 1} → statement M
+qpc-spec =
     tie.close (tie.spec load-requires qpc-requires answer-requires same-length returns)

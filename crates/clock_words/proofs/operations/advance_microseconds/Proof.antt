@@ -1,7 +1,7 @@
 use Rattle.clock_words.specs.ClockWords.{changed}
 use borrow.Author.Needs.{needs}
-use Rattle.exports.proofs.clock_calls.clock_advance_microseconds.Statement.{statement}
-use Rattle.exports.proofs.clock_calls.clock_advance_microseconds.Tie as tie
+use Rattle.clock_words.proofs.operations.advance_microseconds.Statement.{statement}
+use Rattle.clock_words.proofs.operations.advance_microseconds.Tie as tie
 
 load-requires : tie.Need-load-requires
 load-requires c κs = search needs
@@ -19,7 +19,7 @@ returns : tie.Need-returns
 unfolding changed
 returns c = cc
 
-pub clock-advance-microseconds-spec : {M : Type 1} → statement M
-clock-advance-microseconds-spec =
+pub advance-microseconds-spec : {M : Type 1} → statement M
+advance-microseconds-spec =
     tie.close
     (tie.spec load-requires advance-microseconds-requires end-requires same-length returns)

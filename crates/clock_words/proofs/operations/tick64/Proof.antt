@@ -1,7 +1,7 @@
 use Rattle.clock_words.specs.ClockWords.{readInto}
 use borrow.Author.Needs.{needs}
-use Rattle.exports.proofs.clock_calls.clock_tick64.Statement.{statement}
-use Rattle.exports.proofs.clock_calls.clock_tick64.Tie as tie
+use Rattle.clock_words.proofs.operations.tick64.Statement.{statement}
+use Rattle.clock_words.proofs.operations.tick64.Tie as tie
 
 load-requires : tie.Need-load-requires
 load-requires c κs = search needs
@@ -19,6 +19,6 @@ returns : tie.Need-returns
 unfolding readInto
 returns c = cc
 
-pub clock-tick64-spec : {M : Type 1} → statement M
-clock-tick64-spec =
+pub tick64-spec : {M : Type 1} → statement M
+tick64-spec =
     tie.close (tie.spec load-requires tick64-requires answer-requires same-length returns)

@@ -1,7 +1,7 @@
 use Rattle.clock_words.specs.ClockWords.{readInto}
 use borrow.Author.Needs.{needs}
-use Rattle.exports.proofs.clock_calls.clock_tsc.Statement.{statement}
-use Rattle.exports.proofs.clock_calls.clock_tsc.Tie as tie
+use Rattle.clock_words.proofs.operations.tsc.Statement.{statement}
+use Rattle.clock_words.proofs.operations.tsc.Tie as tie
 
 load-requires : tie.Need-load-requires
 load-requires c κs = search needs
@@ -19,6 +19,6 @@ returns : tie.Need-returns
 unfolding readInto
 returns c = cc
 
-pub clock-tsc-spec : {M : Type 1} → statement M
-clock-tsc-spec =
+pub tsc-spec : {M : Type 1} → statement M
+tsc-spec =
     tie.close (tie.spec load-requires tsc-requires answer-requires same-length returns)

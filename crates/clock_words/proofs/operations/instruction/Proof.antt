@@ -1,7 +1,7 @@
 use Rattle.clock_words.specs.ClockWords.{changed}
 use borrow.Author.Needs.{needs}
-use Rattle.exports.proofs.clock_calls.clock_instruction.Statement.{statement}
-use Rattle.exports.proofs.clock_calls.clock_instruction.Tie as tie
+use Rattle.clock_words.proofs.operations.instruction.Statement.{statement}
+use Rattle.clock_words.proofs.operations.instruction.Tie as tie
 
 load-requires : tie.Need-load-requires
 load-requires c κs = search needs
@@ -19,6 +19,6 @@ returns : tie.Need-returns
 unfolding changed
 returns c = cc
 
-pub clock-instruction-spec : {M : Type 1} → statement M
-clock-instruction-spec =
+pub instruction-spec : {M : Type 1} → statement M
+instruction-spec =
     tie.close (tie.spec load-requires instruction-requires end-requires same-length returns)

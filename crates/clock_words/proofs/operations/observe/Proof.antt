@@ -1,7 +1,7 @@
 use Rattle.clock_words.specs.ClockWords.{changed}
 use borrow.Author.Needs.{needs}
-use Rattle.exports.proofs.clock_calls.clock_observe.Statement.{statement}
-use Rattle.exports.proofs.clock_calls.clock_observe.Tie as tie
+use Rattle.clock_words.proofs.operations.observe.Statement.{statement}
+use Rattle.clock_words.proofs.operations.observe.Tie as tie
 
 load-requires : tie.Need-load-requires
 load-requires c κs = search needs
@@ -19,6 +19,6 @@ returns : tie.Need-returns
 unfolding changed
 returns c = cc
 
-pub clock-observe-spec : {M : Type 1} → statement M
-clock-observe-spec =
+pub observe-spec : {M : Type 1} → statement M
+observe-spec =
     tie.close (tie.spec load-requires observe-requires end-requires same-length returns)

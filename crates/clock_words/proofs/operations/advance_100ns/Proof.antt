@@ -1,7 +1,7 @@
 use Rattle.clock_words.specs.ClockWords.{changed}
 use borrow.Author.Needs.{needs}
-use Rattle.exports.proofs.clock_calls.clock_advance_100ns.Statement.{statement}
-use Rattle.exports.proofs.clock_calls.clock_advance_100ns.Tie as tie
+use Rattle.clock_words.proofs.operations.advance_100ns.Statement.{statement}
+use Rattle.clock_words.proofs.operations.advance_100ns.Tie as tie
 
 load-requires : tie.Need-load-requires
 load-requires c κs = search needs
@@ -19,6 +19,6 @@ returns : tie.Need-returns
 unfolding changed
 returns c = cc
 
-pub clock-advance-100ns-spec : {M : Type 1} → statement M
-clock-advance-100ns-spec =
+pub advance-100ns-spec : {M : Type 1} → statement M
+advance-100ns-spec =
     tie.close (tie.spec load-requires advance-100ns-requires end-requires same-length returns)

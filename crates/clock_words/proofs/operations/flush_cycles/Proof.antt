@@ -1,7 +1,7 @@
 use Rattle.clock_words.specs.ClockWords.{changed}
 use borrow.Author.Needs.{needs}
-use Rattle.exports.proofs.clock_calls.clock_flush_cycles.Statement.{statement}
-use Rattle.exports.proofs.clock_calls.clock_flush_cycles.Tie as tie
+use Rattle.clock_words.proofs.operations.flush_cycles.Statement.{statement}
+use Rattle.clock_words.proofs.operations.flush_cycles.Tie as tie
 
 load-requires : tie.Need-load-requires
 load-requires c κs = search needs
@@ -19,6 +19,6 @@ returns : tie.Need-returns
 unfolding changed
 returns c = cc
 
-pub clock-flush-cycles-spec : {M : Type 1} → statement M
-clock-flush-cycles-spec =
+pub flush-cycles-spec : {M : Type 1} → statement M
+flush-cycles-spec =
     tie.close (tie.spec load-requires flush-cycles-requires end-requires same-length returns)

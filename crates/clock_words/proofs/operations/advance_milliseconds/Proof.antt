@@ -1,7 +1,7 @@
 use Rattle.clock_words.specs.ClockWords.{changed}
 use borrow.Author.Needs.{needs}
-use Rattle.exports.proofs.clock_calls.clock_advance_milliseconds.Statement.{statement}
-use Rattle.exports.proofs.clock_calls.clock_advance_milliseconds.Tie as tie
+use Rattle.clock_words.proofs.operations.advance_milliseconds.Statement.{statement}
+use Rattle.clock_words.proofs.operations.advance_milliseconds.Tie as tie
 
 load-requires : tie.Need-load-requires
 load-requires c κs = search needs
@@ -19,7 +19,7 @@ returns : tie.Need-returns
 unfolding changed
 returns c = cc
 
-pub clock-advance-milliseconds-spec : {M : Type 1} → statement M
-clock-advance-milliseconds-spec =
+pub advance-milliseconds-spec : {M : Type 1} → statement M
+advance-milliseconds-spec =
     tie.close
     (tie.spec load-requires advance-milliseconds-requires end-requires same-length returns)
