@@ -9,7 +9,7 @@ use Rattle.answers.specs.Outcome.{Outcome, outcome}
 use Rattle.dispatcher.specs.Dispatch.{Dispatched, told}
 use Rattle.model.specs.Call as call
 use Rattle.calls.specs.Called.{called}
-use Rattle.exports.specs.SchedulerAnswer.{refusalOf, answerIn, given, changedBy, readBy, givenAll, dispatchedBy, Given, GivenAll}
+use Rattle.exports.specs.SchedulerAnswer.{refusalOf, answerIn, given, changedBy, givenAll, dispatchedBy, Given, GivenAll}
 
 module _ (w out : List ℕ) where
   pub changed-short : (o : Outcome) → length out < 4 → given 27 w out ≡ changedBy w out o
@@ -20,14 +20,6 @@ module _ (w out : List ℕ) where
       → given (refusalOf a) after (answerIn out a) ≡ changedBy w out o
   unfolding changedBy
   changed-by o a after h e = simp (le-ltb _ _ h) (ap (λ (x : Outcome). given (refusalOf (x .answer)) (x .words) (answerIn out (x .answer))) e)
-
-  pub read-short : (a : Answer) → length out < 4 → given 27 w out ≡ readBy w out a
-  unfolding readBy
-  read-short a h = simp (lt-ltb _ _ h)
-
-  pub read-by : (a b : Answer) → 4 ≤ length out → a ≡ b → given (refusalOf a) w (answerIn out a) ≡ readBy w out b
-  unfolding readBy
-  read-by a b h e = simp (le-ltb _ _ h) (ap (λ (x : Answer). given (refusalOf x) w (answerIn out x)) e)
 
 module _ (w waiting out : List ℕ) where
   pub dispatched-short : length out < 4 → givenAll 27 w waiting out ≡ dispatchedBy w waiting out

@@ -14,24 +14,20 @@ use Rattle.images.specs.declared.DpcPhase.{DpcPhase}
 use Rattle.images.specs.declared.DpcPhase.the-variants as phase
 use Rattle.images.specs.declared.DpcOrigin.{DpcOrigin}
 use Rattle.images.specs.declared.DpcOrigin.the-variants as origin
-use Rattle.timers.specs.declared.TimerAnswer.{TimerAnswer}
 use Rattle.timers.specs.declared.TimerAnswer.the-variants as timer
-use Rattle.dpc_reads.specs.declared.DpcAnswer.{DpcAnswer}
 use Rattle.dpc_reads.specs.declared.DpcAnswer.the-variants as dpc
-use Rattle.dpc_reads.specs.declared.PolicyAnswer.{PolicyAnswer}
 use Rattle.dpc_reads.specs.declared.PolicyAnswer.the-variants as policy
 use Rattle.dpc_reads.specs.declared.DpcCounters.{DpcCounters}
-use Rattle.dpc_reads.specs.declared.CountersAnswer.{CountersAnswer}
 use Rattle.dpc_reads.specs.declared.CountersAnswer.the-variants as counters
 use Rattle.dpc_work.specs.declared.WorkAnswer.{WorkAnswer}
 use Rattle.dpc_work.specs.declared.WorkAnswer.the-variants as work
 use Rattle.dispatcher.specs.declared.read.ThreadView.{ThreadView}
-use Rattle.dispatcher.specs.declared.read.ThreadAnswer.{ThreadAnswer}
 use Rattle.dispatcher.specs.declared.read.ThreadAnswer.the-variants as thread
 use Rattle.dispatcher.specs.declared.read.Place.{Place}
-use Rattle.dispatcher.specs.declared.read.PlaceAnswer.{PlaceAnswer}
 use Rattle.dispatcher.specs.declared.read.PlaceAnswer.the-variants as place
-use Rattle.exports.specs.SchedulerAnswer.{tagged}
+use Rattle.calls.specs.Guard.{Kind, Code}
+use Rattle.calls.specs.Guard as kind
+use Rattle.exports.specs.SchedulerAnswer.{tagged, refusalOf, answerIn}
 
 -- a tag, and where a timer or a DPC stands: words 1 to 6
 unfoldable pub locatedIn : List ℕ → ℕ → ℕ → Architecture → TimerBacking → List ℕ
@@ -144,26 +140,6 @@ threadIn out t =
 
 -- ---- answers: 0 where the call is accepted, and what it leaves in `out`; a refusal writes nothing
 
-abbrev pub timerRefusal : TimerAnswer → ℕ
-timerRefusal (timer.Refused n) = n
-timerRefusal timer.None = 0
-timerRefusal (timer.Timer t) = 0
-
-abbrev pub timerAnswerIn : List ℕ → TimerAnswer → List ℕ
-timerAnswerIn out (timer.Refused n) = out
-timerAnswerIn out timer.None = tagged out 2
-timerAnswerIn out (timer.Timer t) = timerIn out t
-
-abbrev pub dpcRefusal : DpcAnswer → ℕ
-dpcRefusal (dpc.Refused n) = n
-dpcRefusal dpc.None = 0
-dpcRefusal (dpc.Dpc d) = 0
-
-abbrev pub dpcAnswerIn : List ℕ → DpcAnswer → List ℕ
-dpcAnswerIn out (dpc.Refused n) = out
-dpcAnswerIn out dpc.None = tagged out 2
-dpcAnswerIn out (dpc.Dpc d) = dpcIn out d
-
 abbrev pub workRefusal : WorkAnswer → ℕ
 workRefusal (work.Refused n) = n
 workRefusal (work.Work w) = 0
@@ -172,40 +148,44 @@ abbrev pub workAnswerIn : List ℕ → WorkAnswer → List ℕ
 workAnswerIn out (work.Refused n) = out
 workAnswerIn out (work.Work w) = startedIn out w
 
-abbrev pub policyRefusal : PolicyAnswer → ℕ
-policyRefusal (policy.Refused n) = n
-policyRefusal policy.Unselected = 0
-policyRefusal (policy.Cpu0Dispatch first second) = 0
+-- a read's, by its kind
 
-abbrev pub policyAnswerIn : List ℕ → PolicyAnswer → List ℕ
-policyAnswerIn out (policy.Refused n) = out
-policyAnswerIn out policy.Unselected = tagged out 17
-policyAnswerIn out (policy.Cpu0Dispatch first second) = pairIn out 18 first second
+abbrev pub refusalAs : (k : Kind) → Code k → ℕ
+refusalAs kind.plain a = refusalOf a
+refusalAs kind.threads (thread.Refused n) = n
+refusalAs kind.threads (thread.Thread t) = 0
+refusalAs kind.threads thread.None = 0
+refusalAs kind.places (place.Refused n) = n
+refusalAs kind.places (place.Object p) = 0
+refusalAs kind.places place.None = 0
+refusalAs kind.timers (timer.Refused n) = n
+refusalAs kind.timers timer.None = 0
+refusalAs kind.timers (timer.Timer t) = 0
+refusalAs kind.dpcs (dpc.Refused n) = n
+refusalAs kind.dpcs dpc.None = 0
+refusalAs kind.dpcs (dpc.Dpc d) = 0
+refusalAs kind.policies (policy.Refused n) = n
+refusalAs kind.policies policy.Unselected = 0
+refusalAs kind.policies (policy.Cpu0Dispatch first second) = 0
+refusalAs kind.counts (counters.Refused n) = n
+refusalAs kind.counts (counters.Counters n) = 0
 
-abbrev pub countersRefusal : CountersAnswer → ℕ
-countersRefusal (counters.Refused n) = n
-countersRefusal (counters.Counters n) = 0
-
-abbrev pub countersAnswerIn : List ℕ → CountersAnswer → List ℕ
-countersAnswerIn out (counters.Refused n) = out
-countersAnswerIn out (counters.Counters n) = countersIn out n
-
-abbrev pub threadRefusal : ThreadAnswer → ℕ
-threadRefusal (thread.Refused n) = n
-threadRefusal (thread.Thread t) = 0
-threadRefusal thread.None = 0
-
-abbrev pub threadAnswerIn : List ℕ → ThreadAnswer → List ℕ
-threadAnswerIn out (thread.Refused n) = out
-threadAnswerIn out (thread.Thread t) = threadIn out t
-threadAnswerIn out thread.None = tagged out 2
-
-abbrev pub placeRefusal : PlaceAnswer → ℕ
-placeRefusal (place.Refused n) = n
-placeRefusal (place.Object p) = 0
-placeRefusal place.None = 0
-
-abbrev pub placeAnswerIn : List ℕ → PlaceAnswer → List ℕ
-placeAnswerIn out (place.Refused n) = out
-placeAnswerIn out (place.Object p) = pairIn out 21 (p .kind) (p .key)
-placeAnswerIn out place.None = tagged out 2
+abbrev pub answerAs : (k : Kind) → List ℕ → Code k → List ℕ
+answerAs kind.plain out a = answerIn out a
+answerAs kind.threads out (thread.Refused n) = out
+answerAs kind.threads out (thread.Thread t) = threadIn out t
+answerAs kind.threads out thread.None = tagged out 2
+answerAs kind.places out (place.Refused n) = out
+answerAs kind.places out (place.Object p) = pairIn out 21 (p .kind) (p .key)
+answerAs kind.places out place.None = tagged out 2
+answerAs kind.timers out (timer.Refused n) = out
+answerAs kind.timers out timer.None = tagged out 2
+answerAs kind.timers out (timer.Timer t) = timerIn out t
+answerAs kind.dpcs out (dpc.Refused n) = out
+answerAs kind.dpcs out dpc.None = tagged out 2
+answerAs kind.dpcs out (dpc.Dpc d) = dpcIn out d
+answerAs kind.policies out (policy.Refused n) = out
+answerAs kind.policies out policy.Unselected = tagged out 17
+answerAs kind.policies out (policy.Cpu0Dispatch first second) = pairIn out 18 first second
+answerAs kind.counts out (counters.Refused n) = out
+answerAs kind.counts out (counters.Counters n) = countersIn out n

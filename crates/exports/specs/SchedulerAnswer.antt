@@ -69,9 +69,6 @@ truth n = not (eqb n 0)
 unfoldable pub changedBy : List ℕ → List ℕ → Outcome → Given
 changedBy w out o = cond (ltb (length out) 4) (given 27 w out) (given (refusalOf (o .answer)) (o .words) (answerIn out (o .answer)))
 
-unfoldable pub readBy : List ℕ → List ℕ → Answer → Given
-readBy w out a = cond (ltb (length out) 4) (given 27 w out) (given (refusalOf a) w (answerIn out a))
-
 -- a dispatch has a second output, for the waiting threads' numbers
 pub record GivenAll : Type 0 where
   pub number : ℕ

@@ -3,8 +3,9 @@
 ghost use mathlib.Core.Path.{_≡_};
 ghost use Rattle.model.specs.Call as call;
 ghost use Rattle.calls.specs.Called.{called};
-ghost use Rattle.exports.specs.SchedulerAnswer.{given, changedBy, readBy};
-ghost use Rattle.exports.specs.RecordCall.{dpcReadBy, startedBy, policyReadBy, countersReadBy};
+ghost use Rattle.calls.specs.Guard as kind;
+ghost use Rattle.exports.specs.SchedulerAnswer.{given, changedBy};
+ghost use Rattle.exports.specs.RecordCall.{readBy, startedBy};
 use super::record_answer::put_counters_answer;
 use super::record_answer::put_dpc_answer;
 use super::record_answer::put_policy_answer;
@@ -104,7 +105,7 @@ pub extern "C" fn scheduler_restored_dpc(
 
 #[no_mangle]
 pub extern "C" fn scheduler_dpc_initializations(words: &[u64], out: &mut [u64]) -> u64
-    ensures { λ r. ⌜ given r (now (words .entry)) (now (out .exit)) ≡ readBy (now (words .entry)) (now (out .entry)) (called (now (words .entry)) (call.Reads call.DpcInitializations)) ⌝ }
+    ensures { λ r. ⌜ given r (now (words .entry)) (now (out .exit)) ≡ readBy kind.plain (now (words .entry)) (now (out .entry)) (called (now (words .entry)) (call.Reads call.DpcInitializations)) ⌝ }
 {
     if out.len() < 4 {
         return 27;
@@ -115,7 +116,7 @@ pub extern "C" fn scheduler_dpc_initializations(words: &[u64], out: &mut [u64]) 
 
 #[no_mangle]
 pub extern "C" fn scheduler_queued_dpcs(words: &[u64], position: u64, out: &mut [u64]) -> u64
-    ensures { λ r. ⌜ given r (now (words .entry)) (now (out .exit)) ≡ readBy (now (words .entry)) (now (out .entry)) (called (now (words .entry)) (call.Reads (call.QueuedDpcs position))) ⌝ }
+    ensures { λ r. ⌜ given r (now (words .entry)) (now (out .exit)) ≡ readBy kind.plain (now (words .entry)) (now (out .entry)) (called (now (words .entry)) (call.Reads (call.QueuedDpcs position))) ⌝ }
 {
     if out.len() < 4 {
         return 27;
@@ -126,7 +127,7 @@ pub extern "C" fn scheduler_queued_dpcs(words: &[u64], position: u64, out: &mut 
 
 #[no_mangle]
 pub extern "C" fn scheduler_dpc(words: &[u64], address: u64, out: &mut [u64]) -> u64
-    ensures { λ r. ⌜ given r (now (words .entry)) (now (out .exit)) ≡ dpcReadBy (now (words .entry)) (now (out .entry)) (called (now (words .entry)) (call.Reads (call.DpcAt address))) ⌝ }
+    ensures { λ r. ⌜ given r (now (words .entry)) (now (out .exit)) ≡ readBy kind.dpcs (now (words .entry)) (now (out .entry)) (called (now (words .entry)) (call.Reads (call.DpcAt address))) ⌝ }
 {
     if out.len() < 24 {
         return 27;
@@ -137,7 +138,7 @@ pub extern "C" fn scheduler_dpc(words: &[u64], address: u64, out: &mut [u64]) ->
 
 #[no_mangle]
 pub extern "C" fn scheduler_dpcs(words: &[u64], position: u64, out: &mut [u64]) -> u64
-    ensures { λ r. ⌜ given r (now (words .entry)) (now (out .exit)) ≡ dpcReadBy (now (words .entry)) (now (out .entry)) (called (now (words .entry)) (call.Reads (call.Dpcs position))) ⌝ }
+    ensures { λ r. ⌜ given r (now (words .entry)) (now (out .exit)) ≡ readBy kind.dpcs (now (words .entry)) (now (out .entry)) (called (now (words .entry)) (call.Reads (call.Dpcs position))) ⌝ }
 {
     if out.len() < 24 {
         return 27;
@@ -148,7 +149,7 @@ pub extern "C" fn scheduler_dpcs(words: &[u64], position: u64, out: &mut [u64]) 
 
 #[no_mangle]
 pub extern "C" fn scheduler_active_dpc(words: &[u64], out: &mut [u64]) -> u64
-    ensures { λ r. ⌜ given r (now (words .entry)) (now (out .exit)) ≡ dpcReadBy (now (words .entry)) (now (out .entry)) (called (now (words .entry)) (call.Reads call.ActiveDpc)) ⌝ }
+    ensures { λ r. ⌜ given r (now (words .entry)) (now (out .exit)) ≡ readBy kind.dpcs (now (words .entry)) (now (out .entry)) (called (now (words .entry)) (call.Reads call.ActiveDpc)) ⌝ }
 {
     if out.len() < 24 {
         return 27;
@@ -159,7 +160,7 @@ pub extern "C" fn scheduler_active_dpc(words: &[u64], out: &mut [u64]) -> u64
 
 #[no_mangle]
 pub extern "C" fn scheduler_next_dpc(words: &[u64], out: &mut [u64]) -> u64
-    ensures { λ r. ⌜ given r (now (words .entry)) (now (out .exit)) ≡ dpcReadBy (now (words .entry)) (now (out .entry)) (called (now (words .entry)) (call.Reads call.NextDpc)) ⌝ }
+    ensures { λ r. ⌜ given r (now (words .entry)) (now (out .exit)) ≡ readBy kind.dpcs (now (words .entry)) (now (out .entry)) (called (now (words .entry)) (call.Reads call.NextDpc)) ⌝ }
 {
     if out.len() < 24 {
         return 27;
@@ -170,7 +171,7 @@ pub extern "C" fn scheduler_next_dpc(words: &[u64], out: &mut [u64]) -> u64
 
 #[no_mangle]
 pub extern "C" fn scheduler_dpc_policy(words: &[u64], out: &mut [u64]) -> u64
-    ensures { λ r. ⌜ given r (now (words .entry)) (now (out .exit)) ≡ policyReadBy (now (words .entry)) (now (out .entry)) (called (now (words .entry)) (call.Reads call.DpcPolicy)) ⌝ }
+    ensures { λ r. ⌜ given r (now (words .entry)) (now (out .exit)) ≡ readBy kind.policies (now (words .entry)) (now (out .entry)) (called (now (words .entry)) (call.Reads call.DpcPolicy)) ⌝ }
 {
     if out.len() < 24 {
         return 27;
@@ -181,7 +182,7 @@ pub extern "C" fn scheduler_dpc_policy(words: &[u64], out: &mut [u64]) -> u64
 
 #[no_mangle]
 pub extern "C" fn scheduler_dpc_counters(words: &[u64], out: &mut [u64]) -> u64
-    ensures { λ r. ⌜ given r (now (words .entry)) (now (out .exit)) ≡ countersReadBy (now (words .entry)) (now (out .entry)) (called (now (words .entry)) (call.Reads call.DpcCounters)) ⌝ }
+    ensures { λ r. ⌜ given r (now (words .entry)) (now (out .exit)) ≡ readBy kind.counts (now (words .entry)) (now (out .entry)) (called (now (words .entry)) (call.Reads call.DpcCounters)) ⌝ }
 {
     if out.len() < 24 {
         return 27;

@@ -1,5 +1,6 @@
 // A record that a call answers, in lent words: a tag, and the record's values behind it.
 ghost use mathlib.Core.Path.{_≡_};
+ghost use Rattle.calls.specs.Guard as kind;
 ghost use Rattle.exports.specs.RecordAnswer.{
   locatedIn,
   stateIn,
@@ -15,20 +16,10 @@ ghost use Rattle.exports.specs.RecordAnswer.{
   pairIn,
   waitIn,
   threadIn,
-  timerRefusal,
-  timerAnswerIn,
-  dpcRefusal,
-  dpcAnswerIn,
   workRefusal,
   workAnswerIn,
-  policyRefusal,
-  policyAnswerIn,
-  countersRefusal,
-  countersAnswerIn,
-  threadRefusal,
-  threadAnswerIn,
-  placeRefusal,
-  placeAnswerIn,
+  refusalAs,
+  answerAs,
 };
 use super::scheduler_answer::flag;
 use super::scheduler_answer::tag;
@@ -224,7 +215,7 @@ fn put_thread(out: &mut [u64], t: ThreadView) -> u64
 // ---- answers: the record written to `out`; the number of a refusal, which writes nothing
 
 pub fn put_timer_answer(out: &mut [u64], a: TimerAnswer) -> u64
-    ensures { λ r. ⌜ (r ≡ timerRefusal a) × (now (out .exit) ≡ timerAnswerIn (now (out .entry)) a) ⌝ }
+    ensures { λ r. ⌜ (r ≡ refusalAs kind.timers a) × (now (out .exit) ≡ answerAs kind.timers (now (out .entry)) a) ⌝ }
 {
     match a {
         TimerAnswer::Refused(n) => n,
@@ -234,7 +225,7 @@ pub fn put_timer_answer(out: &mut [u64], a: TimerAnswer) -> u64
 }
 
 pub fn put_dpc_answer(out: &mut [u64], a: DpcAnswer) -> u64
-    ensures { λ r. ⌜ (r ≡ dpcRefusal a) × (now (out .exit) ≡ dpcAnswerIn (now (out .entry)) a) ⌝ }
+    ensures { λ r. ⌜ (r ≡ refusalAs kind.dpcs a) × (now (out .exit) ≡ answerAs kind.dpcs (now (out .entry)) a) ⌝ }
 {
     match a {
         DpcAnswer::Refused(n) => n,
@@ -253,7 +244,7 @@ pub fn put_work_answer(out: &mut [u64], a: WorkAnswer) -> u64
 }
 
 pub fn put_policy_answer(out: &mut [u64], a: PolicyAnswer) -> u64
-    ensures { λ r. ⌜ (r ≡ policyRefusal a) × (now (out .exit) ≡ policyAnswerIn (now (out .entry)) a) ⌝ }
+    ensures { λ r. ⌜ (r ≡ refusalAs kind.policies a) × (now (out .exit) ≡ answerAs kind.policies (now (out .entry)) a) ⌝ }
 {
     match a {
         PolicyAnswer::Refused(n) => n,
@@ -263,7 +254,7 @@ pub fn put_policy_answer(out: &mut [u64], a: PolicyAnswer) -> u64
 }
 
 pub fn put_counters_answer(out: &mut [u64], a: CountersAnswer) -> u64
-    ensures { λ r. ⌜ (r ≡ countersRefusal a) × (now (out .exit) ≡ countersAnswerIn (now (out .entry)) a) ⌝ }
+    ensures { λ r. ⌜ (r ≡ refusalAs kind.counts a) × (now (out .exit) ≡ answerAs kind.counts (now (out .entry)) a) ⌝ }
 {
     match a {
         CountersAnswer::Refused(n) => n,
@@ -272,7 +263,7 @@ pub fn put_counters_answer(out: &mut [u64], a: CountersAnswer) -> u64
 }
 
 pub fn put_thread_answer(out: &mut [u64], a: ThreadAnswer) -> u64
-    ensures { λ r. ⌜ (r ≡ threadRefusal a) × (now (out .exit) ≡ threadAnswerIn (now (out .entry)) a) ⌝ }
+    ensures { λ r. ⌜ (r ≡ refusalAs kind.threads a) × (now (out .exit) ≡ answerAs kind.threads (now (out .entry)) a) ⌝ }
 {
     match a {
         ThreadAnswer::Refused(n) => n,
@@ -282,7 +273,7 @@ pub fn put_thread_answer(out: &mut [u64], a: ThreadAnswer) -> u64
 }
 
 pub fn put_place_answer(out: &mut [u64], a: PlaceAnswer) -> u64
-    ensures { λ r. ⌜ (r ≡ placeRefusal a) × (now (out .exit) ≡ placeAnswerIn (now (out .entry)) a) ⌝ }
+    ensures { λ r. ⌜ (r ≡ refusalAs kind.places a) × (now (out .exit) ≡ answerAs kind.places (now (out .entry)) a) ⌝ }
 {
     match a {
         PlaceAnswer::Refused(n) => n,

@@ -5,8 +5,10 @@ ghost use mathlib.Core.Path.{_≡_};
 ghost use lib.ListN.{length};
 ghost use Rattle.model.specs.Call as call;
 ghost use Rattle.calls.specs.Called.{called, optional};
+ghost use Rattle.calls.specs.Guard as kind;
 ghost use Rattle.opening.specs.Open as opening;
-ghost use Rattle.exports.specs.SchedulerAnswer.{truth, given, changedBy, readBy, dispatchedBy, givenAll};
+ghost use Rattle.exports.specs.SchedulerAnswer.{truth, given, changedBy, dispatchedBy, givenAll};
+ghost use Rattle.exports.specs.RecordCall.{readBy};
 use super::scheduler_answer::put_answer;
 
 #[no_mangle]
@@ -182,7 +184,7 @@ pub extern "C" fn scheduler_advance_to(words: &mut [u64], time: u64, out: &mut [
 
 #[no_mangle]
 pub extern "C" fn scheduler_current(words: &[u64], out: &mut [u64]) -> u64
-    ensures { λ r. ⌜ given r (now (words .entry)) (now (out .exit)) ≡ readBy (now (words .entry)) (now (out .entry)) (called (now (words .entry)) (call.Reads call.Current)) ⌝ }
+    ensures { λ r. ⌜ given r (now (words .entry)) (now (out .exit)) ≡ readBy kind.plain (now (words .entry)) (now (out .entry)) (called (now (words .entry)) (call.Reads call.Current)) ⌝ }
 {
     if out.len() < 4 {
         return 27;
@@ -193,7 +195,7 @@ pub extern "C" fn scheduler_current(words: &[u64], out: &mut [u64]) -> u64
 
 #[no_mangle]
 pub extern "C" fn scheduler_mutex_owner(words: &[u64], key: u64, out: &mut [u64]) -> u64
-    ensures { λ r. ⌜ given r (now (words .entry)) (now (out .exit)) ≡ readBy (now (words .entry)) (now (out .entry)) (called (now (words .entry)) (call.Reads (call.MutexOwner key))) ⌝ }
+    ensures { λ r. ⌜ given r (now (words .entry)) (now (out .exit)) ≡ readBy kind.plain (now (words .entry)) (now (out .entry)) (called (now (words .entry)) (call.Reads (call.MutexOwner key))) ⌝ }
 {
     if out.len() < 4 {
         return 27;
@@ -204,7 +206,7 @@ pub extern "C" fn scheduler_mutex_owner(words: &[u64], key: u64, out: &mut [u64]
 
 #[no_mangle]
 pub extern "C" fn scheduler_mutex_waiters(words: &[u64], key: u64, out: &mut [u64]) -> u64
-    ensures { λ r. ⌜ given r (now (words .entry)) (now (out .exit)) ≡ readBy (now (words .entry)) (now (out .entry)) (called (now (words .entry)) (call.Reads (call.MutexWaiters key))) ⌝ }
+    ensures { λ r. ⌜ given r (now (words .entry)) (now (out .exit)) ≡ readBy kind.plain (now (words .entry)) (now (out .entry)) (called (now (words .entry)) (call.Reads (call.MutexWaiters key))) ⌝ }
 {
     if out.len() < 4 {
         return 27;
@@ -215,7 +217,7 @@ pub extern "C" fn scheduler_mutex_waiters(words: &[u64], key: u64, out: &mut [u6
 
 #[no_mangle]
 pub extern "C" fn scheduler_event_state(words: &[u64], key: u64, out: &mut [u64]) -> u64
-    ensures { λ r. ⌜ given r (now (words .entry)) (now (out .exit)) ≡ readBy (now (words .entry)) (now (out .entry)) (called (now (words .entry)) (call.Reads (call.EventState key))) ⌝ }
+    ensures { λ r. ⌜ given r (now (words .entry)) (now (out .exit)) ≡ readBy kind.plain (now (words .entry)) (now (out .entry)) (called (now (words .entry)) (call.Reads (call.EventState key))) ⌝ }
 {
     if out.len() < 4 {
         return 27;
@@ -226,7 +228,7 @@ pub extern "C" fn scheduler_event_state(words: &[u64], key: u64, out: &mut [u64]
 
 #[no_mangle]
 pub extern "C" fn scheduler_event_states(words: &[u64], position: u64, out: &mut [u64]) -> u64
-    ensures { λ r. ⌜ given r (now (words .entry)) (now (out .exit)) ≡ readBy (now (words .entry)) (now (out .entry)) (called (now (words .entry)) (call.Reads (call.EventStates position))) ⌝ }
+    ensures { λ r. ⌜ given r (now (words .entry)) (now (out .exit)) ≡ readBy kind.plain (now (words .entry)) (now (out .entry)) (called (now (words .entry)) (call.Reads (call.EventStates position))) ⌝ }
 {
     if out.len() < 4 {
         return 27;
@@ -243,7 +245,7 @@ pub extern "C" fn scheduler_require_event_release(
     layout: u64,
     out: &mut [u64],
 ) -> u64
-    ensures { λ r. ⌜ given r (now (words .entry)) (now (out .exit)) ≡ readBy (now (words .entry)) (now (out .entry)) (called (now (words .entry)) (call.Reads (call.RequireEventRelease base size layout))) ⌝ }
+    ensures { λ r. ⌜ given r (now (words .entry)) (now (out .exit)) ≡ readBy kind.plain (now (words .entry)) (now (out .entry)) (called (now (words .entry)) (call.Reads (call.RequireEventRelease base size layout))) ⌝ }
 {
     if out.len() < 4 {
         return 27;
@@ -259,7 +261,7 @@ pub extern "C" fn scheduler_words_needed(
     dpcs: u64,
     out: &mut [u64],
 ) -> u64
-    ensures { λ r. ⌜ given r (now (out .entry)) (now (out .exit)) ≡ readBy (now (out .entry)) (now (out .entry)) (opening.sized threads objects dpcs) ⌝ }
+    ensures { λ r. ⌜ given r (now (out .entry)) (now (out .exit)) ≡ readBy kind.plain (now (out .entry)) (now (out .entry)) (opening.sized threads objects dpcs) ⌝ }
 {
     if out.len() < 4 {
         return 27;

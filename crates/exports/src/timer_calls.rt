@@ -4,9 +4,10 @@
 ghost use mathlib.Core.Path.{_≡_};
 ghost use Rattle.model.specs.Call as call;
 ghost use Rattle.calls.specs.Called.{called};
+ghost use Rattle.calls.specs.Guard as kind;
 ghost use Rattle.images.specs.Place.{architectureOf, backingOf};
-ghost use Rattle.exports.specs.SchedulerAnswer.{truth, given, changedBy, readBy};
-ghost use Rattle.exports.specs.RecordCall.{timerReadBy};
+ghost use Rattle.exports.specs.SchedulerAnswer.{truth, given, changedBy};
+ghost use Rattle.exports.specs.RecordCall.{readBy};
 use super::record_answer::put_timer_answer;
 use super::scheduler_answer::put_answer;
 
@@ -129,7 +130,7 @@ pub extern "C" fn scheduler_require_timer_release(
     size: u64,
     out: &mut [u64],
 ) -> u64
-    ensures { λ r. ⌜ given r (now (words .entry)) (now (out .exit)) ≡ readBy (now (words .entry)) (now (out .entry)) (called (now (words .entry)) (call.Reads (call.RequireTimerRelease address size))) ⌝ }
+    ensures { λ r. ⌜ given r (now (words .entry)) (now (out .exit)) ≡ readBy kind.plain (now (words .entry)) (now (out .entry)) (called (now (words .entry)) (call.Reads (call.RequireTimerRelease address size))) ⌝ }
 {
     if out.len() < 4 {
         return 27;
@@ -140,7 +141,7 @@ pub extern "C" fn scheduler_require_timer_release(
 
 #[no_mangle]
 pub extern "C" fn scheduler_timer_initializations(words: &[u64], out: &mut [u64]) -> u64
-    ensures { λ r. ⌜ given r (now (words .entry)) (now (out .exit)) ≡ readBy (now (words .entry)) (now (out .entry)) (called (now (words .entry)) (call.Reads call.TimerInitializations)) ⌝ }
+    ensures { λ r. ⌜ given r (now (words .entry)) (now (out .exit)) ≡ readBy kind.plain (now (words .entry)) (now (out .entry)) (called (now (words .entry)) (call.Reads call.TimerInitializations)) ⌝ }
 {
     if out.len() < 4 {
         return 27;
@@ -156,7 +157,7 @@ pub extern "C" fn scheduler_timer_read_overlap(
     size: u64,
     out: &mut [u64],
 ) -> u64
-    ensures { λ r. ⌜ given r (now (words .entry)) (now (out .exit)) ≡ readBy (now (words .entry)) (now (out .entry)) (called (now (words .entry)) (call.Reads (call.TimerReadOverlap address size))) ⌝ }
+    ensures { λ r. ⌜ given r (now (words .entry)) (now (out .exit)) ≡ readBy kind.plain (now (words .entry)) (now (out .entry)) (called (now (words .entry)) (call.Reads (call.TimerReadOverlap address size))) ⌝ }
 {
     if out.len() < 4 {
         return 27;
@@ -172,7 +173,7 @@ pub extern "C" fn scheduler_timer_metadata_overlap(
     size: u64,
     out: &mut [u64],
 ) -> u64
-    ensures { λ r. ⌜ given r (now (words .entry)) (now (out .exit)) ≡ readBy (now (words .entry)) (now (out .entry)) (called (now (words .entry)) (call.Reads (call.TimerMetadataOverlap address size))) ⌝ }
+    ensures { λ r. ⌜ given r (now (words .entry)) (now (out .exit)) ≡ readBy kind.plain (now (words .entry)) (now (out .entry)) (called (now (words .entry)) (call.Reads (call.TimerMetadataOverlap address size))) ⌝ }
 {
     if out.len() < 4 {
         return 27;
@@ -183,7 +184,7 @@ pub extern "C" fn scheduler_timer_metadata_overlap(
 
 #[no_mangle]
 pub extern "C" fn scheduler_timer(words: &[u64], address: u64, out: &mut [u64]) -> u64
-    ensures { λ r. ⌜ given r (now (words .entry)) (now (out .exit)) ≡ timerReadBy (now (words .entry)) (now (out .entry)) (called (now (words .entry)) (call.Reads (call.TimerAt address))) ⌝ }
+    ensures { λ r. ⌜ given r (now (words .entry)) (now (out .exit)) ≡ readBy kind.timers (now (words .entry)) (now (out .entry)) (called (now (words .entry)) (call.Reads (call.TimerAt address))) ⌝ }
 {
     if out.len() < 24 {
         return 27;
@@ -194,7 +195,7 @@ pub extern "C" fn scheduler_timer(words: &[u64], address: u64, out: &mut [u64]) 
 
 #[no_mangle]
 pub extern "C" fn scheduler_timers(words: &[u64], position: u64, out: &mut [u64]) -> u64
-    ensures { λ r. ⌜ given r (now (words .entry)) (now (out .exit)) ≡ timerReadBy (now (words .entry)) (now (out .entry)) (called (now (words .entry)) (call.Reads (call.Timers position))) ⌝ }
+    ensures { λ r. ⌜ given r (now (words .entry)) (now (out .exit)) ≡ readBy kind.timers (now (words .entry)) (now (out .entry)) (called (now (words .entry)) (call.Reads (call.Timers position))) ⌝ }
 {
     if out.len() < 24 {
         return 27;
@@ -205,7 +206,7 @@ pub extern "C" fn scheduler_timers(words: &[u64], position: u64, out: &mut [u64]
 
 #[no_mangle]
 pub extern "C" fn scheduler_pending_timer_dpc(words: &[u64], out: &mut [u64]) -> u64
-    ensures { λ r. ⌜ given r (now (words .entry)) (now (out .exit)) ≡ timerReadBy (now (words .entry)) (now (out .entry)) (called (now (words .entry)) (call.Reads call.PendingTimerDpc)) ⌝ }
+    ensures { λ r. ⌜ given r (now (words .entry)) (now (out .exit)) ≡ readBy kind.timers (now (words .entry)) (now (out .entry)) (called (now (words .entry)) (call.Reads call.PendingTimerDpc)) ⌝ }
 {
     if out.len() < 24 {
         return 27;

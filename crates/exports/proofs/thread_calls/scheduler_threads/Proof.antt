@@ -1,13 +1,13 @@
 use mathlib.Core.Path.{_∙_}
 use denote.Ref.{now}
 use Rattle.exports.specs.SchedulerAnswer.{given}
-use Rattle.exports.proofs.RecordLaws.{thread-short, thread-by}
+use Rattle.exports.proofs.RecordLaws.{read-short, read-by}
 use borrow.Author.Needs.{needs}
 use Rattle.exports.proofs.thread_calls.scheduler_threads.Statement.{statement}
 use Rattle.exports.proofs.thread_calls.scheduler_threads.Tie as tie
 
 returns : tie.Need-returns
-returns c = thread-short (now (c .before .before .before .args .words)) (now (c .before .before .before .args .out)) _ (c .if1 .taken)
+returns c = read-short _ (now (c .before .before .before .args .words)) (now (c .before .before .before .args .out)) _ (c .if1 .taken)
 
 threads-requires : tie.Need-threads-requires
 threads-requires c κs = search needs
@@ -21,7 +21,7 @@ same-length c = search needs
 returns-2 : tie.Need-returns-2
 returns-2 c =
     (λ i. given ((c .before .before .put-thread-answer .ensures .0) i) (now (c .before .before .before .before .before .before .before .before .args .words)) ((c .before .before .put-thread-answer .ensures .1) i))
-    ∙ thread-by (now (c .before .before .before .before .before .before .before .before .args .words)) (now (c .before .before .before .before .before .before .before .before .args .out)) (c .before .before .before .before .threads .result) _ (c .before .before .before .before .before .if1 .left) (c .before .before .before .before .threads .ensures)
+    ∙ read-by _ (now (c .before .before .before .before .before .before .before .before .args .words)) (now (c .before .before .before .before .before .before .before .before .args .out)) (c .before .before .before .before .threads .result) _ (c .before .before .before .before .before .if1 .left) (c .before .before .before .before .threads .ensures)
 
 pub scheduler-threads-spec : {M : Type 1} → statement M
 scheduler-threads-spec =
