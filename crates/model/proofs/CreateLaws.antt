@@ -9,14 +9,14 @@ use lib.Dec.{eqb}
 use lib.ListN.{length}
 use lib.Seq.{set-append-seam}
 use Rattle.model.specs.Lists.{given}
-use Rattle.model.specs.State.{Limits, Dispatcher, Thread, Named, Object, mutex, event, timer}
+use Rattle.model.specs.State.{Limits, Dispatcher, Thread, Named, Object}
 use Rattle.model.specs.Threads.{count, threadAt, statusOf, isThread, isLive, hasExited, waitOf, newThread, becomes, created}
 use Rattle.model.specs.Waits.{namedIn, isFree, isAvailable, canWake, reached}
-use Rattle.model.specs.Valid.{OwnerLive, WaitingValid, Sound, Quiet, InTime}
+use Rattle.model.specs.Valid.{WaitingValid, Sound, Quiet, InTime}
 use Rattle.model.proofs.ListLaws.{not-both}
 use Rattle.model.proofs.ThreadLaws.{append-length, append-old, append-new, append-either, standing-new}
 use Rattle.model.proofs.ObjectLaws.{wake-falls}
-use Rattle.model.proofs.SoundLaws.{waits-on, exists-on, thread-is, is-thread, is-live, live-is}
+use Rattle.model.proofs.SoundLaws.{waits-on, exists-on, thread-is, is-thread, is-live, live-is, owner-on}
 
 module _ (d : Dispatcher) (p : ℕ) where
   -- the threads after it: those before, and the new one
@@ -64,17 +64,11 @@ module _ (d : Dispatcher) (p : ℕ) where
   pub in-time-created : (now : ℕ) → InTime now d → InTime now (created d p)
   in-time-created now q i = created-either (λ (x : Thread). reached (waitOf (x .status) .deadline) now ≡ false) i refl (q i)
 
-  owner-created : (x : Object) → OwnerLive d x → OwnerLive (created d p) x
-  owner-created (mutex m) h = go (eqb (m .owner) 0) h
-    where
-      go : (b : Bool) → cond b true (isLive d (m .owner)) ≡ true → cond b true (isLive (created d p) (m .owner)) ≡ true
-      go true q = q
-      go false q =
-          let v = live-is d (m .owner) q in
-          let k = thread-is d (m .owner) (v .0) in
-          is-live (created d p) (m .owner) (k .0) (omega (arith, k .1, created-count)) (ap (λ (x : Thread). hasExited (x .status)) (created-old (m .owner) (k .1)) ∙ v .1)
-  owner-created (event e) h = tt
-  owner-created (timer t) h = tt
+  live-created : (i : ℕ) → isLive d i ≡ true → isLive (created d p) i ≡ true
+  live-created i q =
+      let v = live-is d i q in
+      let k = thread-is d i (v .0) in
+      is-live (created d p) i (k .0) (omega (arith, k .1, created-count)) (ap (λ (x : Thread). hasExited (x .status)) (created-old i (k .1)) ∙ v .1)
 
   pub sound-created : (lim : Limits) → (1 ≤ p) × (p ≤ 31) → count d < lim .threads → Sound lim d → Sound lim (created d p)
   unfolding created becomes
@@ -88,7 +82,7 @@ module _ (d : Dispatcher) (p : ℕ) where
     standing = standing-new (d .threads) (d .placed) (d .waiters) (d .current) (d .sequence) (newThread p) refl (s .standing);
     waits = λ i. created-either (λ (x : Thread). WaitingValid (created d p) (x .status)) i tt
         (waits-on d (created d p) (statusOf d i) (λ n m e. exists-on d (created d p) (omega (arith, created-count)) refl n e) (s .waits i));
-    owners = λ k x e. owner-created x (s .owners k x e);
+    owners = λ k x e. owner-on d (created d p) x (λ m q. live-created (m .owner)) (s .owners k x e);
     rising = s .rising;
     room = s .room;
     places = s .places;

@@ -18,7 +18,7 @@ use Rattle.images.specs.declared.DpcPhase.{DpcPhase}
 use Rattle.images.specs.declared.DpcPhase.the-variants.{Idle, Queued, Running, Returning}
 use Rattle.model.specs.Lists.{Mem, keep, present}
 use Rattle.model.specs.Table.{Rising, Above}
-use Rattle.model.specs.State.{Limits, Dispatcher, Named, Object, mutex, event, timer, Dpcs, Policy, unselected, cpu0Dispatch}
+use Rattle.model.specs.State.{Limits, Dispatcher, Named, Object, timer, Dpcs, Policy, unselected, cpu0Dispatch}
 use Rattle.model.specs.Threads.{isThread, withObjects}
 use Rattle.model.specs.Waits.{keyOf, kindOf, objectAt, ofKind, namedIn, exists, putObject, timersOf}
 use Rattle.model.specs.Dpcs.{dpcAt, phaseAt, isFrom, newWork, accepted, duplicated}
@@ -26,6 +26,7 @@ use Rattle.model.specs.Timers.{lifetime, retimed, nextDue, isPeriodic, e
 use Rattle.model.specs.Valid.{Each, OwnerLive, Placed, Queueing, Linked}
 use Rattle.model.proofs.ListLaws.{not-both, mem-keep}
 use Rattle.model.proofs.TableLaws.{some-same, found, mem-found, find-put-own, find-put-other, rising-put, length-put-known, each-put}
+use Rattle.model.proofs.ObjectLaws.{on-timer}
 use Rattle.model.proofs.DpcLaws.{present-some, phase-found, queueing-accepted, queueing-duplicated}
 use Rattle.model.proofs.LinkLaws.{Less, linked-less, linked-rephased, mem-timer}
 
@@ -206,9 +207,8 @@ Distincts (t ∷ ts) = ((u : Timer) → Mem u ts → u .address ≡ t .address �
 
 timers-distinct : (l : List Object) → Rising keyOf l → Distincts (timersOf l)
 timers-distinct [] r = tt
-timers-distinct (mutex m ∷ l) r = timers-distinct l (r .1)
-timers-distinct (event x ∷ l) r = timers-distinct l (r .1)
-timers-distinct (timer t ∷ l) r = (λ u m e. apart-above (t .address) l (r .0) u m e, timers-distinct l (r .1))
+timers-distinct (x ∷ l) r = on-timer Distincts x (timers-distinct l (r .1))
+    (λ t q. (apart-above (t .address) l (subst (λ (y : Object). Above keyOf (keyOf y) l) q (r .0)), timers-distinct l (r .1)))
 
 keep-distinct : (g : Timer → Bool) (ts : List Timer) → Distincts ts → Distincts (keep g ts)
 keep-distinct g [] h = tt

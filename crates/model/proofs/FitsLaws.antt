@@ -33,7 +33,7 @@ use Rattle.model.specs.Fits.{I32, Fits, ResultFits, ThreadFits, TimerFit
 use Rattle.model.proofs.ListLaws.{not-both, neither}
 use Rattle.model.proofs.TableLaws.{none-some, find-put-own, find-put-other, rising-put, kept-found, each-put, each-keep, each-mem}
 use Rattle.model.proofs.ThreadLaws.{change-either, append-either}
-use Rattle.model.proofs.ObjectLaws.{timer-found, of-kind}
+use Rattle.model.proofs.ObjectLaws.{map-timer, timer-found, of-kind}
 use Rattle.model.proofs.DpcLaws.{phase-own, phase-other}
 use Rattle.model.proofs.CreateLaws.{created-threads}
 use Rattle.model.proofs.OrderLaws.{listed-due}
@@ -66,9 +66,7 @@ abbrev TimersFit : ℕ → List Object → Type 0
 TimersFit n l = Each keyOf l (TimerFits n)
 
 later-fits : (n m : ℕ) → n ≤ m → (x : Object) → TimerFits n x → TimerFits m x
-later-fits n m h (mutex x) f = tt
-later-fits n m h (event x) f = tt
-later-fits n m h (timer t) f = (f .0, f .1, omega (arith, f .2, h))
+later-fits n m h = map-timer (λ t f. (f .0, f .1, omega (arith, f .2, h)))
 
 taken-fits : (n id : ℕ) (o : Object) → TimerFits n o → TimerFits n (takenBy id o)
 taken-fits n id (mutex m) f = tt

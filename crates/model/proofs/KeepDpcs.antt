@@ -17,7 +17,7 @@ use Rattle.images.specs.declared.DpcPhase.{DpcPhase}
 use Rattle.images.specs.declared.DpcPhase.the-variants.{Idle, Queued, Running, Returning}
 use Rattle.images.specs.Place.{locationRefusal, dpcSize}
 use Rattle.model.specs.Lists.{present}
-use Rattle.model.specs.State.{State, Dpcs, Object, mutex, event, timer}
+use Rattle.model.specs.State.{State, Dpcs, Object}
 use Rattle.model.specs.Waits.{objectAt}
 use Rattle.model.specs.Dpcs.{addressOf, dpcAt, phaseAt, putDpc, rephased, isQueued, isBusy, newWork, activeDpc, accepted, duplicated, withdrawn, started, returned, restored, isIdle}
 use Rattle.model.specs.Timers.{lifetime, isNamed}
@@ -26,6 +26,7 @@ use Rattle.model.specs.Step.{withDpcs, dpcInitialized, configured, dpcIn
 use Rattle.model.specs.Answer.{gives, Flag}
 use Rattle.model.specs.Valid.{Served, Queueing, Linked, Valid}
 use Rattle.model.proofs.ListLaws.{not-both}
+use Rattle.model.proofs.ObjectLaws.{map-timer}
 use Rattle.model.proofs.TableLaws.{find-put-own, find-put-other, length-put, length-put-known}
 use Rattle.model.proofs.DpcLaws.{idle-not-busy, queued-work, present-some, phase-found, phase-known, queueing-accepted, queueing-duplicated, queueing-withdrawn, queueing-started, queueing-returned, queueing-restored, queueing-put, idle-phases}
 use Rattle.model.proofs.LinkLaws.{linked-table, linked-rephased, unnamed}
@@ -80,7 +81,7 @@ module _ (s : State) (v : Valid s) where
         quiet = v .quiet;
         in-time = v .in-time;
         queueing = queueing-put limit (s .dpcs) (v .queueing) x refl idle (room (dpcAt table address) refl (r₂ .0)) (eqb-true (locationRefusal address (dpcSize a) a b) 0 (r₆ .0));
-        linked = linked-table (s .dispatcher .objects) table (putDpc x table) (λ k y f. served k y f (idle-phases limit (s .dpcs) (v .queueing) x refl idle)) (λ k p z. elsewhere k p z (r₁ .0)) (v .linked);
+        linked = linked-table (s .dispatcher .objects) table (putDpc x table) (λ k y f. served y (idle-phases limit (s .dpcs) (v .queueing) x refl idle) (v .linked .served k y f)) (λ k p z. elsewhere k p z (r₁ .0)) (v .linked);
         policy = v .policy;
         timers-lived = v .timers-lived;
         dpcs-lived = omega (arith, leb-false lifetime (s .dpcInitializations) (r₃ .0));
@@ -101,10 +102,8 @@ module _ (s : State) (v : Valid s) where
         | no n ↦ ap present (find-put-other addressOf x table c n) ∙ p
       ]
 
-      served : (k : ℕ) (y : Object) → objectAt (s .dispatcher .objects) k ≡ some y → ((c : ℕ) → phaseAt (putDpc x table) c ≡ phaseAt table c) → Served (putDpc x table) y
-      served k (mutex m) f ph = tt
-      served k (event m) f ph = tt
-      served k (timer t) f ph = λ i n. let q = v .linked .served k (timer t) f i n in (still (t .dpc) (q .0), λ w z. q .1 w (sym (ph (t .dpc)) ∙ z))
+      served : (y : Object) → ((c : ℕ) → phaseAt (putDpc x table) c ≡ phaseAt table c) → Served table y → Served (putDpc x table) y
+      served y ph = map-timer (λ t h i n. let q = h i n in (still (t .dpc) (q .0), λ w z. q .1 w (sym (ph (t .dpc)) ∙ z))) y
 
       elsewhere : (k : ℕ) → present (objectAt (s .dispatcher .objects) k) ≡ true → present (dpcAt table k) ≡ false → present (objectAt (s .dispatcher .objects) address) ≡ false → present (dpcAt (putDpc x table) k) ≡ false
       elsewhere k p z none′ = ap present (find-put-other addressOf x table k (λ q. not-both (sym p ∙ ap (λ (j : ℕ). present (objectAt (s .dispatcher .objects) j)) q ∙ none′))) ∙ z

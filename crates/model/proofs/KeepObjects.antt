@@ -10,7 +10,7 @@ use lib.Dec.{eqb, leb, ltb}
 use lib.ListN.{length}
 use Rattle.model.specs.Lists.{Mem, any, keep, present, given}
 use Rattle.model.specs.Table.{Rising}
-use Rattle.model.specs.State.{State, Limits, Dispatcher, Status, running, ready, waiting, exited, Named, Mutex, Event, Object, mutex, event, timer}
+use Rattle.model.specs.State.{State, Limits, Dispatcher, Status, running, ready, waiting, exited, Named, Mutex, Event, Object, mutex, event}
 use Rattle.model.specs.Threads.{statusOf, isThread, isLive, hasExited, waitOf, withObjects}
 use Rattle.model.specs.Waits.{keyOf, kindOf, objectAt, mutexAt, eventAt, ofKind, namedIn, exists, isFree, isAvailable, putObject, ownedBy, signaledAs, eventsOf, wake}
 use Rattle.model.specs.Dpcs.{dpcAt}
@@ -21,7 +21,7 @@ use Rattle.model.specs.Answer.{gives, Done, Flag}
 use Rattle.model.specs.Valid.{Each, WaitingValid, OwnerLive, Placed, Linked, Valid}
 use Rattle.model.proofs.ListLaws.{not-both, any-false, length-keep}
 use Rattle.model.proofs.TableLaws.{found, find-put-other, rising-put, rising-keep, find-kept, each-put, each-keep, length-put, length-put-known}
-use Rattle.model.proofs.ObjectLaws.{mutex-found, event-found, Falls, Restated, restated-put, put-falls, wake-falls}
+use Rattle.model.proofs.ObjectLaws.{on-event, mutex-found, event-found, Falls, Restated, restated-put, put-falls, wake-falls}
 use Rattle.model.proofs.SoundLaws.{sound-objects}
 use Rattle.model.proofs.WakeLaws.{sound-restated, quiet-restated, wake-quiet, wake-in-time}
 use Rattle.model.proofs.LinkLaws.{linked-same, linked-mutex, linked-event, linked-kept}
@@ -236,14 +236,12 @@ module _ (s : State) (v : Valid s) where
       let b = passes (eqb size 0) 22 (cond (eqb layout 0) 23 (cond (any (eventHeld s base (base + size) layout) (eventsOf (d₀ .objects))) 23 0)) (a .1) in
       let c = passes (eqb layout 0) 22 (cond (any (eventHeld s base (base + size) layout) (eventsOf (d₀ .objects))) 23 0) (b .1) in
       let g = passes (any (eventHeld s base (base + size) layout) (eventsOf (d₀ .objects))) 22 0 (c .1) in
-      valid-kept (λ o. not (isRetiredEvent base (base + size) o)) (λ i n m o f k. stays i n m o f k (eqb-false layout 0 (c .0)) (g .0))
+      valid-kept (λ o. not (isRetiredEvent base (base + size) o)) (λ i n m o f k. on-event (λ b. not b ≡ true) o refl (λ x q. stays i n m x (f ∙ ap some q) (sym (ap kindOf q) ∙ k) (eqb-false layout 0 (c .0)) (g .0)))
       (linked-kept (λ o. not (isRetiredEvent base (base + size) o)) (d₀ .objects) (s .dpcs .table) (v .sound .rising) (v .linked))
     where
-      stays : (i : ℕ) (n : Named) → Mem n (waitOf (statusOf d₀ i) .objects) → (o : Object) → objectAt (d₀ .objects) (n .key) ≡ some o → kindOf o ≡ n .kind → (layout ≡ 0 → ⊥)
-          → any (eventHeld s base (base + size) layout) (eventsOf (d₀ .objects)) ≡ false → not (isRetiredEvent base (base + size) o) ≡ true
-      stays i n m (mutex x) f k pos held = refl
-      stays i n m (timer x) f k pos held = refl
-      stays i n m (event x) f k pos held = go (leb base (x .key)) (ltb (x .key) (base + size)) refl refl
+      stays : (i : ℕ) (n : Named) → Mem n (waitOf (statusOf d₀ i) .objects) → (x : Event) → objectAt (d₀ .objects) (n .key) ≡ some (event x) → 1 ≡ n .kind → (layout ≡ 0 → ⊥)
+          → any (eventHeld s base (base + size) layout) (eventsOf (d₀ .objects)) ≡ false → not (leb base (x .key) && ltb (x .key) (base + size)) ≡ true
+      stays i n m x f k pos held = go (leb base (x .key)) (ltb (x .key) (base + size)) refl refl
         where
           key-is : x .key ≡ n .key
           key-is = found keyOf (d₀ .objects) (n .key) (event x) f .1

@@ -18,7 +18,7 @@ use Rattle.images.specs.declared.DpcPhase.{DpcPhase}
 use Rattle.images.specs.declared.DpcPhase.the-variants.{Idle, Queued, Running, Returning}
 use Rattle.images.specs.Place.{locationRefusal, timerSize}
 use Rattle.model.specs.Lists.{Mem, any, keep, present, given}
-use Rattle.model.specs.State.{State, Limits, Dispatcher, Dpcs, Named, Object, mutex, event, timer}
+use Rattle.model.specs.State.{State, Limits, Dispatcher, Dpcs, Named, Object, timer}
 use Rattle.model.specs.Threads.{statusOf, isThread, hasExited, waitOf, withObjects}
 use Rattle.model.specs.Waits.{keyOf, kindOf, objectAt, timerAt, ofKind, namedIn, isFree, isAvailable, putObject, timersOf, wake}
 use Rattle.model.specs.Dpcs.{addressOf, dpcAt, phaseAt, isQueued, isBusy, withdrawn, isIdle}
@@ -26,10 +26,10 @@ use Rattle.model.specs.Timers.{most, lifetime, newTimer, armed, cancelle
 use Rattle.model.specs.Refusal.{collides, isFull, isWaitedOn, isInserted, placeRefusal, timerRefusal, isNegative, armRefusal, setRefusal, setSignedRefusal, signedDue, isPeriodicOrigin, timerOverlapped, dpcOverlapped, timerHeld, dpcHeld, timerReleaseRefusal, isUnselected, unexpired, advanceRefusal}
 use Rattle.model.specs.Step.{withDpcs, withTable, timerInitialized, timerSet, ownQueued, cancelsWork, timerCancelled, isRetiredTimer, timersRetired, expiredAt, advanced}
 use Rattle.model.specs.Answer.{gives, Done, Flag}
-use Rattle.model.specs.Valid.{OwnerLive, Placed, Served, Alone, Linked, Valid}
+use Rattle.model.specs.Valid.{OwnerLive, Placed, Served, Linked, Valid}
 use Rattle.model.proofs.ListLaws.{not-both, any-false}
 use Rattle.model.proofs.TableLaws.{found, find-put-own, find-put-other, rising-put, find-kept, kept-found, each-put, length-put-known}
-use Rattle.model.proofs.ObjectLaws.{timer-found}
+use Rattle.model.proofs.ObjectLaws.{on-timer, each-timer, timer-found}
 use Rattle.model.proofs.SoundLaws.{sound-objects}
 use Rattle.model.proofs.WakeLaws.{wake-quiet, timed-out}
 use Rattle.model.proofs.DpcLaws.{idle-not-busy, present-some, phase-found, phase-known, queueing-withdrawn, queueing-kept, kept-phases}
@@ -128,21 +128,12 @@ module _ (s : State) (v : Valid s) where
       valid-retimed u t g refl (λ z. absurd (not-both (sym z))) (v .sound .places (t .address) (timer t) g)
       (linked-put (timer u) objects table
       (λ i n. let q = h n in (q .0, λ w z. absurd (not-both (sym (ap isQueued z) ∙ ap isQueued (idle-not-busy (phaseAt table dpc) (q .2))))))
-      (λ j y z. alone-left j y z k) (λ j y z. alone-right j y z k)
+      (each-timer objects (λ j w z i₁ i₂ n q. k ∙ sym (unnamed-by-other objects address dpc (h n .1) j w z i₂ (sym q))))
+      (each-timer objects (λ j w z i₁ i₂ n q. unnamed-by-other objects address dpc (h (λ y. n (q ∙ y)) .1) j w z i₁ q ∙ sym k))
       (v .linked .apart (t .address) (ap present g)) (v .linked))
     where
       u : Timer
       u = armed t due absolute period dpc
-
-      alone-left : (j : ℕ) (y : Object) → objectAt objects j ≡ some y → t .address ≡ address → Alone (timer u) y
-      alone-left j (mutex m) z k = tt
-      alone-left j (event m) z k = tt
-      alone-left j (timer w) z k = λ i₁ i₂ n q. k ∙ sym (unnamed-by-other objects address dpc (h n .1) j w z i₂ (sym q))
-
-      alone-right : (j : ℕ) (y : Object) → objectAt objects j ≡ some y → t .address ≡ address → Alone y (timer u)
-      alone-right j (mutex m) z k = tt
-      alone-right j (event m) z k = tt
-      alone-right j (timer w) z k = λ i₁ i₂ n q. unnamed-by-other objects address dpc (h (λ y. n (q ∙ y)) .1) j w z i₁ q ∙ sym k
 
   pub valid-set-timer : (address due : ℕ) (absolute : Bool) (p : ℤ) (period dpc : ℕ) → setRefusal s address p dpc ≡ 0 → Valid (timerSet s address due absolute period dpc .state)
   unfolding setRefusal timerSet
@@ -243,10 +234,8 @@ module _ (s : State) (v : Valid s) (address size : ℕ) (e : timerReleaseRefusal
   abbrev q : Dpcs
   q = record { table = keep stays (s .dpcs .table); queue = s .dpcs .queue; counters = s .dpcs .counters }
 
-  served : (k : ℕ) (x : Object) → objectAt (s .dispatcher .objects) k ≡ some x → Served (keep stays (s .dpcs .table)) x
-  served k (mutex m) f = tt
-  served k (event m) f = tt
-  served k (timer t) f = λ i n. let r = v .linked .served k (timer t) f i n in (still i (r .0), λ w z. r .1 w (sym (kept-phases (s .limits .dpcs) (s .dpcs) (v .queueing) stays idle (t .dpc)) ∙ z))
+  served : (k : ℕ) (t : Timer) → objectAt (s .dispatcher .objects) k ≡ some (timer t) → Served (keep stays (s .dpcs .table)) (timer t)
+  served k t f = λ i n. let r = v .linked .served k (timer t) f i n in (still i (r .0), λ w z. r .1 w (sym (kept-phases (s .limits .dpcs) (s .dpcs) (v .queueing) stays idle (t .dpc)) ∙ z))
     where
       still : t .inserted ≡ true → present (dpcAt (s .dpcs .table) (t .dpc)) ≡ true → present (dpcAt (keep stays (s .dpcs .table)) (t .dpc)) ≡ true
       still i p =
@@ -267,12 +256,10 @@ module _ (s : State) (v : Valid s) (address size : ℕ) (e : timerReleaseRefusal
 
   fewer-dpcs : Valid (withDpcs s q)
   fewer-dpcs = valid-dpcs s v q (queueing-kept (s .limits .dpcs) (s .dpcs) (v .queueing) stays idle)
-      (linked-table (s .dispatcher .objects) (s .dpcs .table) (keep stays (s .dpcs .table)) served (λ k p z. absent-on k z) (v .linked))
+      (linked-table (s .dispatcher .objects) (s .dpcs .table) (keep stays (s .dpcs .table)) (each-timer (s .dispatcher .objects) served) (λ k p z. absent-on k z) (v .linked))
 
-  timer-stays : (i : ℕ) (n : Named) → Mem n (waitOf (statusOf (s .dispatcher) i) .objects) → (o : Object) → objectAt (s .dispatcher .objects) (n .key) ≡ some o → kindOf o ≡ n .kind → not (isRetiredTimer address size o) ≡ true
-  timer-stays i n m (mutex x) f k = refl
-  timer-stays i n m (event x) f k = refl
-  timer-stays i n m (timer t) f k = unfold timerHeld in (by (timerOverlapped address size t) (t .inserted) (isWaitedOn s 2 (t .address)) refl
+  timer-stays : (i : ℕ) (n : Named) → Mem n (waitOf (statusOf (s .dispatcher) i) .objects) → (t : Timer) → objectAt (s .dispatcher .objects) (n .key) ≡ some (timer t) → 2 ≡ n .kind → not (timerOverlapped address size t) ≡ true
+  timer-stays i n m t f k = unfold timerHeld in (by (timerOverlapped address size t) (t .inserted) (isWaitedOn s 2 (t .address)) refl
       (any-false (timerHeld s address size) (timersOf (s .dispatcher .objects)) (none-held .0) t (timer-found-mem (s .dispatcher .objects) (n .key) t f)))
     where
       by : (a b c : Bool) → isWaitedOn s 2 (t .address) ≡ c → cond a (cond b true (cond c true (isPeriodicOrigin (s .dpcs .table) (t .address)))) false ≡ false → not a ≡ true
@@ -283,7 +270,8 @@ module _ (s : State) (v : Valid s) (address size : ℕ) (e : timerReleaseRefusal
 
   pub valid-retire-timers : Valid (timersRetired s address size)
   unfolding timersRetired
-  valid-retire-timers = valid-kept (withDpcs s q) fewer-dpcs (λ o. not (isRetiredTimer address size o)) timer-stays
+  valid-retire-timers = valid-kept (withDpcs s q) fewer-dpcs (λ o. not (isRetiredTimer address size o))
+      (λ i n m o f k. on-timer (λ b. not b ≡ true) o refl (λ t e. timer-stays i n m t (f ∙ ap some e) (sym (ap kindOf e) ∙ k)))
       (linked-kept (λ o. not (isRetiredTimer address size o)) (s .dispatcher .objects) (keep stays (s .dpcs .table)) (v .sound .rising) (fewer-dpcs .linked))
 
 -- ---- advance_to

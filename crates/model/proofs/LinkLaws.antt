@@ -2,9 +2,8 @@
 use Prim.Native.Nat.{ℕ}
 use mathlib.Core.List.{List, [], _∷_}
 use mathlib.Core.Bool.{Bool, true, false, cond}
-use mathlib.Core.Path.{_≡_, refl, sym, ap, _∙_}
+use mathlib.Core.Path.{_≡_, refl, sym, ap, _∙_, subst}
 use mathlib.Core.Option.{Option, none, some}
-use native.Mathlib.Omega.{arith}
 use native.Mathlib.Decide.{ℕ-discrete}
 use lib.Dec.{eqb}
 use Rattle.images.specs.declared.Timer.{Timer}
@@ -17,15 +16,15 @@ use Rattle.images.specs.declared.DpcPhase.the-variants.{Queued}
 use Rattle.model.specs.Lists.{Mem, keep, present}
 use Rattle.model.specs.Table.{Rising}
 use Rattle.model.specs.State.{Object, mutex, event, timer, Event, Mutex}
-use Rattle.model.specs.Waits.{keyOf, objectAt, putObject, timersOf, withSignal, kindOf}
+use Rattle.model.specs.Waits.{keyOf, objectAt, putObject, timersOf, withSignal}
 use Rattle.model.specs.Dpcs.{addressOf, dpcAt, phaseAt, rephased, isFrom}
 use Rattle.model.specs.Timers.{isNamed, isNamedByOther}
 use Rattle.model.specs.Valid.{Each, Served, Alone, Linked}
 use Rattle.model.proofs.ListLaws.{not-both, any-false}
 use Rattle.model.proofs.TableLaws.{none-some, found, find-put-other, kept-found, each-put, each-keep}
-use Rattle.model.proofs.ObjectLaws.{core, coreOf, Same, each-same}
+use Rattle.model.proofs.ObjectLaws.{on-timer, at-timer, map-timer, each-timer, timer-kind, core, coreOf, core-of, same-kind, Same}
 use Rattle.model.proofs.DpcLaws.{phase-own, phase-other, still-present}
-use mathlib.Core.Logic.{inl, inr}
+use mathlib.Core.Logic.{inl, inr, ⊎-elim}
 use borrow.Author.Tests.{eq-eqb, ne-eqb}
 
 -- ---- a timer that serves as another does: the same address, DPC, arm and initialization, and not inserted unless the other is
@@ -52,74 +51,37 @@ served-less table t u h s i n =
     )
 
 pub alone-less-left : (t u : Timer) → Less t u → (y : Object) → Alone (timer u) y → Alone (timer t) y
-alone-less-left t u h (mutex m) a = tt
-alone-less-left t u h (event e) a = tt
-alone-less-left t u h (timer v) a = λ i j n e. h .address ∙ a (h .inserted i) j (λ z. n (h .dpc ∙ z)) (sym (h .dpc) ∙ e)
+alone-less-left t u h = map-timer (λ v a i j n e. h .address ∙ a (h .inserted i) j (λ z. n (h .dpc ∙ z)) (sym (h .dpc) ∙ e))
 
 pub alone-less-right : (t u : Timer) → Less t u → (y : Object) → Alone y (timer u) → Alone y (timer t)
-alone-less-right t u h (mutex m) a = tt
-alone-less-right t u h (event e) a = tt
-alone-less-right t u h (timer v) a = λ i j n e. a i (h .inserted j) n (e ∙ h .dpc) ∙ sym (h .address)
+alone-less-right t u h = map-timer (λ v a i j n e. a i (h .inserted j) n (e ∙ h .dpc) ∙ sym (h .address))
 
 pub alone-self : (x : Object) → Alone x x
-alone-self (mutex m) = tt
-alone-self (event e) = tt
-alone-self (timer t) = λ i j n e. refl
-
--- a mutex or an event serves nobody
-pub alone-mutex : (m : Mutex) (y : Object) → Alone y (mutex m)
-alone-mutex m (mutex x) = tt
-alone-mutex m (event e) = tt
-alone-mutex m (timer t) = tt
-
-pub alone-event : (m : Event) (y : Object) → Alone y (event m)
-alone-event m (mutex x) = tt
-alone-event m (event e) = tt
-alone-event m (timer t) = tt
+alone-self x = at-timer x (λ t e. subst (Alone (timer t)) (sym e) (λ i j n q. refl))
 
 -- a timer that is not inserted
 pub alone-idle : (t : Timer) → t .inserted ≡ false → (y : Object) → (Alone (timer t) y) × Alone y (timer t)
-alone-idle t e (mutex x) = (tt, tt)
-alone-idle t e (event x) = (tt, tt)
-alone-idle t e (timer u) = (λ i j n q. absurd (not-both (sym i ∙ e)), λ i j n q. absurd (not-both (sym j ∙ e)))
+alone-idle t e y = (at-timer y (λ u z i j n q. absurd (not-both (sym i ∙ e))), at-timer y (λ u z i j n q. absurd (not-both (sym j ∙ e))))
 
 -- ---- owners and signals do not touch it
 
-less-core : (t : Timer) (b : Bool) → Less (withSignal t b) t
-less-core t b = record { inserted = λ i. i; address = refl; dpc = refl; arm = refl; initialization = refl }
-
-less-back : (t : Timer) (b : Bool) → Less t (withSignal t b)
-less-back t b = record { inserted = λ i. i; address = refl; dpc = refl; arm = refl; initialization = refl }
-
-served-core : (table : List Dpc) (x : Object) → Served table x → Served table (core x)
-served-core table (mutex m) s = tt
-served-core table (event e) s = tt
-served-core table (timer t) s = served-less table (withSignal t false) t (less-core t false) s
-
-core-served : (table : List Dpc) (x : Object) → Served table (core x) → Served table x
-core-served table (mutex m) s = tt
-core-served table (event e) s = tt
-core-served table (timer t) s = served-less table t (withSignal t false) (less-back t false) s
-
-alone-core : (x y : Object) → Alone x y → Alone (core x) y
-alone-core (mutex m) y a = tt
-alone-core (event e) y a = tt
-alone-core (timer t) y a = alone-less-left (withSignal t false) t (less-core t false) y a
-
-core-alone : (x y : Object) → Alone (core x) y → Alone x y
-core-alone (mutex m) y a = tt
-core-alone (event e) y a = tt
-core-alone (timer t) y a = alone-less-left t (withSignal t false) (less-back t false) y a
-
-alone-core′ : (x y : Object) → Alone x y → Alone x (core y)
-alone-core′ x (mutex m) a = alone-mutex (record { key = m .key; owner = 0 }) x
-alone-core′ x (event e) a = alone-event (record { key = e .key; manual = e .manual; signaled = false }) x
-alone-core′ x (timer t) a = alone-less-right (withSignal t false) t (less-core t false) x a
-
-core-alone′ : (x y : Object) → Alone x (core y) → Alone x y
-core-alone′ x (mutex m) a = alone-mutex m x
-core-alone′ x (event e) a = alone-event e x
-core-alone′ x (timer t) a = alone-less-right t (withSignal t false) (less-back t false) x a
+-- a timer was one before, but for its signal
+timer-before : (l l′ : List Object) → Same l l′ → (k : ℕ) (t : Timer) → objectAt l′ k ≡ some (timer t) → (u : Timer) × (objectAt l k ≡ some (timer u)) × Less t u
+timer-before l l′ s k t e =
+    let c = core-of (objectAt l k) (timer t) (sym (s k) ∙ ap coreOf e) in
+    let u = timer-kind (c .0) (same-kind (c .0) (timer t) (c .2)) in
+    let q : core (timer (u .0)) ≡ core (timer t) = ap core (sym (u .1)) ∙ c .2 in
+    let same : withSignal (u .0) false ≡ withSignal t false = cc in (
+      u .0,
+      c .1 ∙ ap some (u .1),
+      record {
+        inserted = λ i. ap (λ (x : Timer). x .inserted) same ∙ i;
+        address = sym (ap (λ (x : Timer). x .address) same);
+        dpc = sym (ap (λ (x : Timer). x .dpc) same);
+        arm = sym (ap (λ (x : Timer). x .«arm_generation») same);
+        initialization = sym (ap (λ (x : Timer). x .initialization) same);
+      },
+    )
 
 core-present : (a b : Option Object) → coreOf a ≡ coreOf b → present a ≡ present b
 core-present none none e = refl
@@ -129,9 +91,11 @@ core-present (some x) (some y) e = refl
 
 pub linked-same : (l l′ : List Object) (table : List Dpc) → Same l l′ → Linked l table → Linked l′ table
 linked-same l l′ table s h = record {
-  served = each-same (Served table) (served-core table) (core-served table) l l′ s (h .served);
-  alone = each-same (λ x. Each keyOf l′ (λ y. Alone x y)) (λ x p k y e. alone-core x y (p k y e)) (λ x p k y e. core-alone x y (p k y e)) l l′ s
-      (λ k x e. each-same (λ y. Alone x y) (alone-core′ x) (core-alone′ x) l l′ s (h .alone k x e));
+  served = each-timer l′ (λ k t e. let b = timer-before l l′ s k t e in served-less table t (b .0) (b .2) (h .served k (timer (b .0)) (b .1)));
+  alone = λ k x e j y f. at-timer x (λ t q. at-timer y (λ u r.
+      let a = timer-before l l′ s k t (e ∙ ap some q) in
+      let b = timer-before l l′ s j u (f ∙ ap some r) in
+      alone-less-left t (a .0) (a .2) (timer u) (alone-less-right u (b .0) (b .2) (timer (a .0)) (h .alone k (timer (a .0)) (a .1) j (timer (b .0)) (b .1)))));
   apart = λ k p. h .apart k (sym (core-present (objectAt l′ k) (objectAt l k) (s k)) ∙ p);
 }
 
@@ -152,10 +116,10 @@ linked-put x l table s a b p h = record {
 
 -- a mutex or an event
 pub linked-mutex : (m : Mutex) (l : List Object) (table : List Dpc) → present (dpcAt table (m .key)) ≡ false → Linked l table → Linked (putObject (mutex m) l) table
-linked-mutex m l table p h = linked-put (mutex m) l table tt (λ k y e. tt) (λ k y e. alone-mutex m y) p h
+linked-mutex m l table p h = linked-put (mutex m) l table tt (λ k y e. tt) (λ k y e. at-timer y (λ t q. tt)) p h
 
 pub linked-event : (m : Event) (l : List Object) (table : List Dpc) → present (dpcAt table (m .key)) ≡ false → Linked l table → Linked (putObject (event m) l) table
-linked-event m l table p h = linked-put (event m) l table tt (λ k y e. tt) (λ k y e. alone-event m y) p h
+linked-event m l table p h = linked-put (event m) l table tt (λ k y e. tt) (λ k y e. at-timer y (λ t q. tt)) p h
 
 -- a timer that is not inserted
 pub linked-idle : (t : Timer) (l : List Object) (table : List Dpc) → t .inserted ≡ false → present (dpcAt table (t .address)) ≡ false → Linked l table → Linked (putObject (timer t) l) table
@@ -190,12 +154,10 @@ linked-table l table table′ s p h = record { served = s; alone = h .alone; apa
 -- one DPC in another phase: where that is queued, the timer that has it is the work's origin
 module _ (l : List Object) (table : List Dpc) (r : Rising addressOf table) (a : ℕ) (d : Dpc) (f : dpcAt table a ≡ some d) (p : DpcPhase) where
   pub linked-rephased : ((k : ℕ) (t : Timer) → objectAt l k ≡ some (timer t) → t .inserted ≡ true → t .dpc ≡ a → (w : DpcWork) → p ≡ Queued w → isFrom t (w .origin) ≡ true) → Linked l table → Linked l (rephased table a p)
-  linked-rephased own h = linked-table l table (rephased table a p) (λ k x e. after k x e (h .served k x e)) (λ k q z. still-present table r a d f p k ∙ z) h
+  linked-rephased own h = linked-table l table (rephased table a p) (each-timer l after) (λ k q z. still-present table r a d f p k ∙ z) h
     where
-      after : (k : ℕ) (x : Object) → objectAt l k ≡ some x → Served table x → Served (rephased table a p) x
-      after k (mutex m) e s = tt
-      after k (event v) e s = tt
-      after k (timer t) e s = λ i n. let q = s i n in (
+      after : (k : ℕ) (t : Timer) → objectAt l k ≡ some (timer t) → Served (rephased table a p) (timer t)
+      after k t e = λ i n. let q = h .served k (timer t) e i n in (
         still-present table r a d f p (t .dpc) ∙ q .0,
         λ w z. elim (ℕ-discrete (t .dpc) a) [
           | yes y ↦ own k t e i y w (sym (phase-own table r a d f p) ∙ ap (phaseAt (rephased table a p)) (sym y) ∙ z)
@@ -207,19 +169,12 @@ module _ (l : List Object) (table : List Dpc) (r : Rising addressOf table) (a : 
 
 pub timer-mem : (l : List Object) (t : Timer) → Mem (timer t) l → Mem t (timersOf l)
 timer-mem [] t m = absurd m
-timer-mem (mutex x ∷ l) t (inl e) = let z : _≡_ {A = ℕ} 0 2 = ap kindOf (sym e) in absurd (omega arith)
-timer-mem (mutex x ∷ l) t (inr m) = timer-mem l t m
-timer-mem (event x ∷ l) t (inl e) = let z : _≡_ {A = ℕ} 1 2 = ap kindOf (sym e) in absurd (omega arith)
-timer-mem (event x ∷ l) t (inr m) = timer-mem l t m
-timer-mem (timer x ∷ l) t (inl e) = inl (let z : t ≡ x = cc in z)
-timer-mem (timer x ∷ l) t (inr m) = inr (timer-mem l t m)
+timer-mem (x ∷ l) t (inl e) = subst (λ (y : Object). Mem t (timersOf (y ∷ l))) e (inl refl)
+timer-mem (x ∷ l) t (inr m) = on-timer (Mem t) x (timer-mem l t m) (λ u e. inr (timer-mem l t m))
 
 pub mem-timer : (l : List Object) (t : Timer) → Mem t (timersOf l) → Mem (timer t) l
-mem-timer [] t m = absurd m
-mem-timer (mutex x ∷ l) t m = inr (mem-timer l t m)
-mem-timer (event x ∷ l) t m = inr (mem-timer l t m)
-mem-timer (timer x ∷ l) t (inl e) = inl (ap timer e)
-mem-timer (timer x ∷ l) t (inr m) = inr (mem-timer l t m)
+mem-timer [] t = λ m. absurd m
+mem-timer (x ∷ l) t = on-timer (λ ts. Mem t ts → Mem (timer t) (x ∷ l)) x (λ m. inr (mem-timer l t m)) (λ u e. ⊎-elim (λ q. inl (ap timer q ∙ sym e)) (λ m. inr (mem-timer l t m)))
 
 pub timer-found-mem : (l : List Object) (k : ℕ) (t : Timer) → objectAt l k ≡ some (timer t) → Mem t (timersOf l)
 timer-found-mem l k t e = timer-mem l t (found keyOf l k (timer t) e .0)

@@ -14,31 +14,61 @@ use Rattle.model.specs.Lists.{Mem, isEmpty, present, given}
 use Rattle.model.specs.Table.{Rising}
 use Rattle.model.specs.State.{Dispatcher, Wait, Named, Mutex, Event, Object, mutex, event, timer}
 use Rattle.model.specs.Threads.{isThread, isLive, statusOf, hasExited, withObjects}
-use Rattle.model.specs.Waits.{keyOf, kindOf, objectAt, asMutex, asEvent, asTimer, namedIn, ofKind, exists, isFree, isAvailable, putObject, withSignal, takenBy, take, takeEvery, takes, firstAvailable, noObject, everyAvailable, isMet, canWake}
+use Rattle.model.specs.Waits.{keyOf, kindOf, onMutex, onEvent, onTimer, objectAt, asMutex, asEvent, asTimer, namedIn, ofKind, exists, isFree, isAvailable, putObject, withSignal, takenBy, take, takeEvery, takes, firstAvailable, noObject, everyAvailable, isMet, canWake}
 use Rattle.model.specs.Valid.{Each, OwnerLive, Placed}
 use Rattle.model.proofs.ListLaws.{not-both, any-falls}
 use Rattle.model.proofs.TableLaws.{some-same, none-some, found, find-put-own, find-put-other, rising-put, length-put-known, each-put}
 use Rattle.images.specs.declared.Timer.{Timer}
 
+-- ---- what is said of one kind and of every other alike: it is to be shown of the kind, and of the others once
+
+pub on-mutex {ℓ} : {A : Type ℓ} (P : A → Type 0) {b : A} {f : Mutex → A} (x : Object) → P b → ((m : Mutex) → x ≡ mutex m → P (f m)) → P (onMutex b f x)
+on-mutex P (mutex m) d h = h m refl
+on-mutex P (event e) d h = d
+on-mutex P (timer t) d h = d
+
+pub on-event {ℓ} : {A : Type ℓ} (P : A → Type 0) {b : A} {f : Event → A} (x : Object) → P b → ((e : Event) → x ≡ event e → P (f e)) → P (onEvent b f x)
+on-event P (mutex m) d h = d
+on-event P (event e) d h = h e refl
+on-event P (timer t) d h = d
+
+pub on-timer {ℓ} : {A : Type ℓ} (P : A → Type 0) {b : A} {f : Timer → A} (x : Object) → P b → ((t : Timer) → x ≡ timer t → P (f t)) → P (onTimer b f x)
+on-timer P (mutex m) d h = d
+on-timer P (event e) d h = d
+on-timer P (timer t) d h = h t refl
+
+-- nothing is said of the others
+pub at-mutex : {Q : Mutex → Type 0} (x : Object) → ((m : Mutex) → x ≡ mutex m → Q m) → onMutex Unit Q x
+at-mutex x h = on-mutex (λ Q. Q) x tt h
+
+pub at-timer : {Q : Timer → Type 0} (x : Object) → ((t : Timer) → x ≡ timer t → Q t) → onTimer Unit Q x
+at-timer x h = on-timer (λ Q. Q) x tt h
+
+pub map-timer : {Q R : Timer → Type 0} → ((t : Timer) → Q t → R t) → (x : Object) → onTimer Unit Q x → onTimer Unit R x
+map-timer {Q} h x q = at-timer x (λ t e. h t (subst (onTimer Unit Q) e q))
+
+pub each-timer : (l : List Object) {Q : Timer → Type 0} → ((k : ℕ) (t : Timer) → objectAt l k ≡ some (timer t) → Q t) → Each keyOf l (onTimer Unit Q)
+each-timer l h k x e = at-timer x (λ t q. h k t (e ∙ ap some q))
+
 -- ---- a kind's record found is that object found
 
 pub mutex-found : (o : Option Object) (m : Mutex) → asMutex o ≡ some m → o ≡ some (mutex m)
-mutex-found none m e = absurd (none-some m e)
-mutex-found (some (mutex x)) m e = ap {B = Option Object} (λ (y : Mutex). some (mutex y)) (some-same x m e)
-mutex-found (some (event x)) m e = absurd (none-some m e)
-mutex-found (some (timer x)) m e = absurd (none-some m e)
+mutex-found none m = λ e. absurd (none-some m e)
+mutex-found (some x) m = on-mutex (λ a. a ≡ some m → some x ≡ some (mutex m)) x (λ e. absurd (none-some m e)) (λ y q e. ap some (q ∙ ap mutex (some-same y m e)))
 
 pub event-found : (o : Option Object) (e : Event) → asEvent o ≡ some e → o ≡ some (event e)
-event-found none m e = absurd (none-some m e)
-event-found (some (mutex x)) m e = absurd (none-some m e)
-event-found (some (event x)) m e = ap {B = Option Object} (λ (y : Event). some (event y)) (some-same x m e)
-event-found (some (timer x)) m e = absurd (none-some m e)
+event-found none m = λ e. absurd (none-some m e)
+event-found (some x) m = on-event (λ a. a ≡ some m → some x ≡ some (event m)) x (λ e. absurd (none-some m e)) (λ y q e. ap some (q ∙ ap event (some-same y m e)))
 
 pub timer-found : (o : Option Object) (t : Timer) → asTimer o ≡ some t → o ≡ some (timer t)
-timer-found none m e = absurd (none-some m e)
-timer-found (some (mutex x)) m e = absurd (none-some m e)
-timer-found (some (event x)) m e = absurd (none-some m e)
-timer-found (some (timer x)) m e = ap {B = Option Object} (λ (y : Timer). some (timer y)) (some-same x m e)
+timer-found none m = λ e. absurd (none-some m e)
+timer-found (some x) m = on-timer (λ a. a ≡ some m → some x ≡ some (timer m)) x (λ e. absurd (none-some m e)) (λ y q e. ap some (q ∙ ap timer (some-same y m e)))
+
+-- a timer by its kind
+pub timer-kind : (x : Object) → kindOf x ≡ 2 → (t : Timer) × (x ≡ timer t)
+timer-kind (mutex m) e = absurd (omega arith)
+timer-kind (event m) e = absurd (omega arith)
+timer-kind (timer t) e = (t, refl)
 
 -- ---- an object without its owner or signal
 
@@ -70,7 +100,7 @@ core-kind (timer t) = refl
 pub same-kind : (x y : Object) → core x ≡ core y → kindOf x ≡ kindOf y
 same-kind x y e = sym (core-kind x) ∙ ap kindOf e ∙ core-kind y
 
-core-of : (a : Option Object) (y : Object) → coreOf a ≡ some (core y) → (x : Object) × (a ≡ some x) × (core x ≡ core y)
+pub core-of : (a : Option Object) (y : Object) → coreOf a ≡ some (core y) → (x : Object) × (a ≡ some x) × (core x ≡ core y)
 core-of none y e = absurd (none-some (core y) e)
 core-of (some x) y e = (x, refl, some-same (core x) (core y) e)
 
@@ -91,12 +121,12 @@ put-falls x o l f h k t = elim (ℕ-discrete k (keyOf x)) [
 
 -- ---- taking
 
-taken-key : (id : ℕ) (o : Object) → keyOf (takenBy id o) ≡ keyOf o
+pub taken-key : (id : ℕ) (o : Object) → keyOf (takenBy id o) ≡ keyOf o
 taken-key id (mutex m) = refl
 taken-key id (event e) = refl
 taken-key id (timer t) = refl
 
-taken-core : (id : ℕ) (o : Object) → core (takenBy id o) ≡ core o
+pub taken-core : (id : ℕ) (o : Object) → core (takenBy id o) ≡ core o
 taken-core id (mutex m) = refl
 taken-core id (event e) = refl
 taken-core id (timer t) = refl
@@ -229,17 +259,12 @@ wake-falls d′ d w h e = go (canWake d′ w) refl
 
 -- ---- properties that owners and signals do not touch
 
-pub each-same : (P : Object → Type 0) → ((x : Object) → P x → P (core x)) → ((x : Object) → P (core x) → P x) → (l l′ : List Object) → Same l l′ → Each keyOf l P → Each keyOf l′ P
-each-same P down up l l′ s h k y e =
+pub each-same : (P : Object → Type 0) → ((x : Object) → P (core x) ≡ P x) → (l l′ : List Object) → Same l l′ → Each keyOf l P → Each keyOf l′ P
+each-same P same l l′ s h k y e =
     let q = core-of (objectAt l k) y (sym (s k) ∙ ap coreOf e) in
-    up y (subst P (q .2) (down (q .0) (h k (q .0) (q .1))))
+    subst (λ (X : Type 0). X) (sym (same (q .0)) ∙ ap P (q .2) ∙ same y) (h k (q .0) (q .1))
 
-pub placed-core : (x : Object) → Placed x → Placed (core x)
-placed-core (mutex m) h = h
-placed-core (event e) h = h
-placed-core (timer t) h = h
-
-pub core-placed : (x : Object) → Placed (core x) → Placed x
-core-placed (mutex m) h = h
-core-placed (event e) h = h
-core-placed (timer t) h = h
+pub placed-core : (x : Object) → Placed (core x) ≡ Placed x
+placed-core (mutex m) = refl
+placed-core (event e) = refl
+placed-core (timer t) = refl

@@ -11,11 +11,12 @@ use lib.Dec.{leb}
 use Rattle.images.specs.declared.Timer.{Timer}
 use Rattle.model.specs.Lists.{Mem, keep}
 use Rattle.model.specs.Table.{Rising, Above}
-use Rattle.model.specs.State.{Object, mutex, event, timer, Policy, unselected, cpu0Dispatch}
+use Rattle.model.specs.State.{Object, timer, Policy, unselected, cpu0Dispatch}
 use Rattle.model.specs.Waits.{keyOf, timersOf}
 use Rattle.model.specs.Timers.{isDue, insertByDue, byDue, inOrder, dueTimers}
 use Rattle.model.specs.Order.{ByAddress, Sooner, ByDue}
 use Rattle.model.proofs.ListLaws.{mem-keep, keep-mem}
+use Rattle.model.proofs.ObjectLaws.{on-timer}
 use Rattle.model.proofs.LinkLaws.{mem-timer, timer-mem}
 use Rattle.model.proofs.ExpiryLaws.{mem-insert, mem-sorted}
 
@@ -28,9 +29,8 @@ above-mem a (y ∷ ys) h x (inr m) = above-mem a ys (h .1) x m
 
 timers-rise : (l : List Object) → Rising keyOf l → ByAddress (timersOf l)
 timers-rise [] r = tt
-timers-rise (mutex m ∷ l) r = timers-rise l (r .1)
-timers-rise (event x ∷ l) r = timers-rise l (r .1)
-timers-rise (timer t ∷ l) r = (λ u m. above-mem (t .address) l (r .0) (timer u) (mem-timer l u m), timers-rise l (r .1))
+timers-rise (x ∷ l) r = on-timer ByAddress x (timers-rise l (r .1))
+    (λ t q. (λ u m. above-mem (t .address) l (subst (λ (y : Object). Above keyOf (keyOf y) l) q (r .0)) (timer u) (mem-timer l u m), timers-rise l (r .1)))
 
 keep-rise : (g : Timer → Bool) (ts : List Timer) → ByAddress ts → ByAddress (keep g ts)
 keep-rise g [] h = tt

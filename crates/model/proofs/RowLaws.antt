@@ -2,18 +2,19 @@
 use Prim.Native.Nat.{ℕ, zero, suc, _≤_}
 use mathlib.Core.List.{List, [], _∷_}
 use mathlib.Core.Bool.{Bool, true, false, cond, _&&_, _||_}
-use mathlib.Core.Path.{_≡_, refl, sym, ap, _∙_}
+use mathlib.Core.Path.{_≡_, refl, sym, ap, _∙_, subst}
 use mathlib.Core.Logic.{inl, inr}
 use mathlib.Core.Option.{Option, none, some}
 use native.Mathlib.Omega.{arith}
 use borrow.Author.Tests.{eq-eqb, ltb-false}
 use lib.Dec.{eqb, ltb}
 use Rattle.model.specs.Lists.{Mem, any, present, given}
-use Rattle.model.specs.State.{Dispatcher, Thread, Named, Mutex, Event, Object, mutex, event, timer}
+use Rattle.model.specs.State.{Dispatcher, Thread, Named, Mutex, Event, Object, mutex, event}
 use Rattle.model.specs.Threads.{noOne, threadAt, statusOf, waitOf}
-use Rattle.model.specs.Waits.{kindOf, mutexesOf, eventsOf, sameNamed, listed, waitsOn}
+use Rattle.model.specs.Waits.{mutexesOf, eventsOf, sameNamed, listed, waitsOn}
 use Rattle.model.specs.Refusal.{notPriority, badLimits}
 use Rattle.model.proofs.ListLaws.{not-both, neither, any-false}
+use Rattle.model.proofs.ObjectLaws.{on-mutex, on-event}
 
 -- a test that would have refused did not pass
 pub passes : (b : Bool) (n m : ℕ) → cond b (suc n) m ≡ 0 → (b ≡ false) × (m ≡ 0)
@@ -81,18 +82,10 @@ unwaited d m e i n a p q =
 
 pub mutex-mem : (l : List Object) (m : Mutex) → Mem (mutex m) l → Mem m (mutexesOf l)
 mutex-mem [] m a = absurd a
-mutex-mem (mutex x ∷ l) m (inl e) = inl (let z : m ≡ x = cc in z)
-mutex-mem (mutex x ∷ l) m (inr a) = inr (mutex-mem l m a)
-mutex-mem (event x ∷ l) m (inl e) = let z : _≡_ {A = ℕ} 0 1 = ap kindOf e in absurd (omega arith)
-mutex-mem (event x ∷ l) m (inr a) = mutex-mem l m a
-mutex-mem (timer x ∷ l) m (inl e) = let z : _≡_ {A = ℕ} 0 2 = ap kindOf e in absurd (omega arith)
-mutex-mem (timer x ∷ l) m (inr a) = mutex-mem l m a
+mutex-mem (x ∷ l) m (inl e) = subst (λ (y : Object). Mem m (mutexesOf (y ∷ l))) e (inl refl)
+mutex-mem (x ∷ l) m (inr a) = on-mutex (Mem m) x (mutex-mem l m a) (λ y q. inr (mutex-mem l m a))
 
 pub event-mem : (l : List Object) (m : Event) → Mem (event m) l → Mem m (eventsOf l)
 event-mem [] m a = absurd a
-event-mem (mutex x ∷ l) m (inl e) = let z : _≡_ {A = ℕ} 1 0 = ap kindOf e in absurd (omega arith)
-event-mem (mutex x ∷ l) m (inr a) = event-mem l m a
-event-mem (event x ∷ l) m (inl e) = inl (let z : m ≡ x = cc in z)
-event-mem (event x ∷ l) m (inr a) = inr (event-mem l m a)
-event-mem (timer x ∷ l) m (inl e) = let z : _≡_ {A = ℕ} 1 2 = ap kindOf e in absurd (omega arith)
-event-mem (timer x ∷ l) m (inr a) = event-mem l m a
+event-mem (x ∷ l) m (inl e) = subst (λ (y : Object). Mem m (eventsOf (y ∷ l))) e (inl refl)
+event-mem (x ∷ l) m (inr a) = on-event (Mem m) x (event-mem l m a) (λ y q. inr (event-mem l m a))

@@ -11,13 +11,13 @@ use lib.Dec.{eqb, leb}
 use lib.ListN.{length}
 use Rattle.model.specs.Lists.{Mem, given, present}
 use Rattle.model.specs.Table.{Rising}
-use Rattle.model.specs.State.{Limits, Dispatcher, Thread, Status, running, ready, waiting, exited, Wait, Named, Mutex, Object, mutex, event, timer}
+use Rattle.model.specs.State.{Limits, Dispatcher, Thread, Status, running, ready, waiting, exited, Wait, Named, Mutex, Object, mutex}
 use Rattle.model.specs.Threads.{count, threadAt, changeAt, statusOf, priorityOf, isThread, isLive, hasExited, waitOf, withThread, withObjects, withSequence, becomes}
 use Rattle.model.specs.Waits.{keyOf, objectAt, namedIn, exists, isFree, isAvailable, canWake, reached}
 use Rattle.model.specs.Valid.{Each, WaitingValid, OwnerLive, Placed, Sound, Quiet, InTime}
 use Rattle.model.proofs.ListLaws.{not-both}
 use Rattle.model.proofs.ThreadLaws.{length-change, change-own, change-other, change-either, Movable, standing-moved, standing-same, standing-sequence}
-use Rattle.model.proofs.ObjectLaws.{wake-falls}
+use Rattle.model.proofs.ObjectLaws.{at-mutex, wake-falls}
 
 -- ---- what exists for one exists for another
 
@@ -65,12 +65,15 @@ live-is d i t = go (isThread d i) (hasExited (statusOf d i)) refl refl t
     go true false p q e = (p, q)
     go false b p q e = absurd (not-both (sym e))
 
--- ---- other objects
+-- an owner that lives on
+pub owner-on : (d d′ : Dispatcher) (x : Object) → ((m : Mutex) → x ≡ mutex m → isLive d (m .owner) ≡ true → isLive d′ (m .owner) ≡ true) → OwnerLive d x → OwnerLive d′ x
+owner-on d d′ x f h = at-mutex x (λ m e. go m (eqb (m .owner) 0) (f m e) (subst (OwnerLive d) e h))
+  where
+    go : (m : Mutex) (b : Bool) → (isLive d (m .owner) ≡ true → isLive d′ (m .owner) ≡ true) → cond b true (isLive d (m .owner)) ≡ true → cond b true (isLive d′ (m .owner)) ≡ true
+    go m true k q = q
+    go m false k q = k q
 
-owner-objects : (d : Dispatcher) (l : List Object) (x : Object) → OwnerLive d x → OwnerLive (withObjects d l) x
-owner-objects d l (mutex m) h = h
-owner-objects d l (event e) h = h
-owner-objects d l (timer t) h = h
+-- ---- other objects
 
 module _ (lim : Limits) (d : Dispatcher) (s : Sound lim d) where
   pub sound-objects : (l : List Object) → ((i : ℕ) (n : Named) → Mem n (waitOf (statusOf d i) .objects) → exists d n ≡ true → exists (withObjects d l) n ≡ true)
@@ -81,7 +84,7 @@ module _ (lim : Limits) (d : Dispatcher) (s : Sound lim d) where
     priorities = s .priorities;
     standing = s .standing;
     waits = λ i. waits-on d (withObjects d l) (statusOf d i) (h i) (s .waits i);
-    owners = λ j x e. owner-objects d l x (o j x e);
+    owners = o;
     rising = r;
     room = k;
     places = p;
@@ -117,15 +120,6 @@ module _ (lim : Limits) (d : Dispatcher) (s : Sound lim d) where
         not-exited true q z = absurd (h q z)
         not-exited false q z = q
 
-    owner-after : (k : ℕ) (x : Object) → objectAt (d .objects) k ≡ some x → (hasExited (t .status) ≡ true → Unowned) → OwnerLive d x → OwnerLive (becomes d id t) x
-    owner-after k (mutex m) f u h = go (eqb (m .owner) 0) h
-      where
-        go : (b : Bool) → cond b true (isLive d (m .owner)) ≡ true → cond b true (isLive (becomes d id t) (m .owner)) ≡ true
-        go true q = q
-        go false q = live-after (m .owner) (λ z e. u z k m f e) q
-    owner-after k (event e) f u h = tt
-    owner-after k (timer y) f u h = tt
-
     pub sound-becomes : Movable (d .threads) (d .waiters) (d .current) (d .sequence) id t → (1 ≤ t .priority) × (t .priority ≤ 31) → WaitingValid d (t .status)
         → (hasExited (t .status) ≡ true → Unowned) → Sound lim (becomes d id t)
     unfolding becomes
@@ -141,7 +135,7 @@ module _ (lim : Limits) (d : Dispatcher) (s : Sound lim d) where
       waits = λ i. change-either (λ (x : Thread). WaitingValid (becomes d id t) (x .status)) (d .threads) id t i
           (waits-on d (becomes d id t) (t .status) (λ n a e. after-exists n e) w)
           (waits-on d (becomes d id t) (statusOf d i) (λ n a e. after-exists n e) (s .waits i));
-      owners = λ k x e. owner-after k x e u (s .owners k x e);
+      owners = λ k x e. owner-on d (becomes d id t) x (λ m q. live-after (m .owner) (λ z. u z k m (e ∙ ap some q))) (s .owners k x e);
       rising = s .rising;
       room = s .room;
       places = s .places;
@@ -208,21 +202,15 @@ module _ (lim : Limits) (d : Dispatcher) (s : Sound lim d) where
       standing = standing-same (d .threads) (d .placed) (d .waiters) (d .current) (d .sequence) id t (s .standing) e;
       waits = λ i. subst (WaitingValid (withThread d id t)) (sym (kept-status e i))
           (waits-on d (withThread d id t) (statusOf d i) (λ n a z. exists-on d (withThread d id t) (omega (arith, length-change (d .threads) id t)) refl n z) (s .waits i));
-      owners = λ k x z. owner-same x (s .owners k x z);
+      owners = λ k x z. owner-on d (withThread d id t) x (λ m q. live-same (m .owner)) (s .owners k x z);
       rising = s .rising;
       room = s .room;
       places = s .places;
     }
       where
-        owner-same : (x : Object) → OwnerLive d x → OwnerLive (withThread d id t) x
-        owner-same (mutex m) h = go (eqb (m .owner) 0) h
-          where
-            go : (b : Bool) → cond b true (isLive d (m .owner)) ≡ true → cond b true (isLive (withThread d id t) (m .owner)) ≡ true
-            go true q = q
-            go false q = let v = live-is d (m .owner) q in let k = thread-is d (m .owner) (v .0) in
-                is-live (withThread d id t) (m .owner) (k .0) (omega (arith, k .1, length-change (d .threads) id t)) (ap hasExited (kept-status e (m .owner)) ∙ v .1)
-        owner-same (event y) h = tt
-        owner-same (timer y) h = tt
+        live-same : (i : ℕ) → isLive d i ≡ true → isLive (withThread d id t) i ≡ true
+        live-same i q = let v = live-is d i q in let k = thread-is d i (v .0) in
+            is-live (withThread d id t) i (k .0) (omega (arith, k .1, length-change (d .threads) id t)) (ap hasExited (kept-status e i) ∙ v .1)
 
     pub quiet-same : t .status ≡ statusOf d id → Quiet d → Quiet (withThread d id t)
     quiet-same e q i = subst (λ (x : Status). canWake (withThread d id t) (waitOf x) ≡ false) (sym (kept-status e i))
@@ -240,16 +228,11 @@ module _ (lim : Limits) (d : Dispatcher) (s : Sound lim d) where
     priorities = s .priorities;
     standing = standing-sequence (d .threads) (d .placed) (d .waiters) (d .current) (d .sequence) n h (s .standing);
     waits = λ i. waits-on d (withSequence d n) (statusOf d i) (λ m a e. e) (s .waits i);
-    owners = λ k x e. same x (s .owners k x e);
+    owners = s .owners;
     rising = s .rising;
     room = s .room;
     places = s .places;
   }
-    where
-      same : (x : Object) → OwnerLive d x → OwnerLive (withSequence d n) x
-      same (mutex m) h′ = h′
-      same (event y) h′ = h′
-      same (timer y) h′ = h′
 
   pub unmet-sequence : (n : ℕ) (w : Wait) → canWake d w ≡ false → canWake (withSequence d n) w ≡ false
   unmet-sequence n w e = wake-falls (withSequence d n) d w (λ x m z. z) e

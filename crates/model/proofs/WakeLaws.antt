@@ -15,7 +15,7 @@ use Rattle.model.specs.Waits.{canWake, reached, takes, index, wakeOne, p
 use Rattle.model.specs.Valid.{Sound, Quiet, InTime, Placed}
 use Rattle.model.proofs.ListLaws.{not-both, member-mem}
 use Rattle.model.proofs.ThreadLaws.{length-change, change-own, change-other, stands-somewhere}
-use Rattle.model.proofs.ObjectLaws.{Same, Falls, Restated, takes-restated, exists-same, available-falls, wake-falls, each-same, placed-core, core-placed}
+use Rattle.model.proofs.ObjectLaws.{Same, Falls, Restated, takes-restated, exists-same, available-falls, wake-falls, each-same, placed-core}
 use Rattle.model.proofs.SoundLaws.{sound-objects, sound-becomes, unmet-after, quiet-becomes, in-time-becomes, is-live}
 
 -- ---- owners and signals restated
@@ -23,7 +23,7 @@ use Rattle.model.proofs.SoundLaws.{sound-objects, sound-becomes, unmet-
 module _ (lim : Limits) (d : Dispatcher) (s : Sound lim d) (l : List Object) (r : Restated d (d .objects) l) where
   pub sound-restated : Sound lim (withObjects d l)
   sound-restated = sound-objects lim d s l (λ i n m e. exists-same d l (r .same) n e) (r .owners) (r .rising) (omega (arith, r .size, s .room))
-      (each-same Placed placed-core core-placed (d .objects) l (r .same) (s .places))
+      (each-same Placed placed-core (d .objects) l (r .same) (s .places))
 
   pub quiet-restated : Falls (d .objects) l → Quiet d → Quiet (withObjects d l)
   quiet-restated f q i = wake-falls (withObjects d l) d (waitOf (statusOf d i)) (λ n m e. available-falls d l (r .same) f n e) (q i)

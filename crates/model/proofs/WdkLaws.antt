@@ -28,6 +28,7 @@ use Rattle.model.specs.Wdk.{wasSignaled, inTimerQueue, inDpcQueue, Inser
 use Rattle.model.proofs.ListLaws.{not-both, last-own, out-own, neither, any-false, every-at}
 use Rattle.model.proofs.TableLaws.{some-same, none-some, found, find-put-own, find-put-other}
 use Rattle.model.proofs.RowLaws.{passes, holds, there, same-named}
+use Rattle.model.proofs.ObjectLaws.{same-kind, taken-key, taken-core}
 
 -- an accepted call has its effect
 pub step-is : (c : Call) (s : State) → refusal c s ≡ 0 → step c s ≡ effect c s
@@ -186,15 +187,8 @@ no-thread-kind (mutex m) e = omega arith
 no-thread-kind (event x) e = omega arith
 no-thread-kind (timer t) e = omega arith
 
-taken-key : (id : ℕ) (o : Object) → keyOf (takenBy id o) ≡ keyOf o
-taken-key id (mutex m) = refl
-taken-key id (event e) = refl
-taken-key id (timer t) = refl
-
 taken-kind : (id : ℕ) (o : Object) → kindOf (takenBy id o) ≡ kindOf o
-taken-kind id (mutex m) = refl
-taken-kind id (event e) = refl
-taken-kind id (timer t) = refl
+taken-kind id o = same-kind (takenBy id o) o (taken-core id o)
 
 -- taking is what the pages say of waiting
 taken-same : (id : ℕ) (o : Object) → takenBy id o ≡ afterWait id o

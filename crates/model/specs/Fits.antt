@@ -8,9 +8,9 @@ use lib.IntN.{ℤ, pos, negsuc}
 use Rattle.images.specs.declared.TimerBacking.{TimerBacking}
 use Rattle.images.specs.declared.TimerBacking.the-variants.{Image, NonpagedPool}
 use Rattle.model.specs.State as state
-use Rattle.model.specs.State.{State, Status, WaitResult, Object, mutex, event, timer}
+use Rattle.model.specs.State.{State, Status, WaitResult, Object}
 use Rattle.model.specs.Threads.{threadOf}
-use Rattle.model.specs.Waits.{keyOf}
+use Rattle.model.specs.Waits.{keyOf, onTimer}
 use Rattle.model.specs.Dpcs.{phaseAt, isBusy}
 use Rattle.model.specs.Valid.{Each, workAt}
 use Rattle.model.specs.Call.{Call}
@@ -104,9 +104,7 @@ ThreadFits t = ResultFits (t .result) × StatusFits (t .status)
 
 -- a period that is no negative i32, and an initialization that has been
 abbrev pub TimerFits : ℕ → Object → Type 0
-TimerFits n (mutex m) = Unit
-TimerFits n (event e) = Unit
-TimerFits n (timer t) = (t .«period_ms» ≤ 2 ^ 31 - 1) × (1 ≤ t .initialization) × (t .initialization ≤ n)
+TimerFits n = onTimer Unit (λ t. (t .«period_ms» ≤ 2 ^ 31 - 1) × (1 ≤ t .initialization) × (t .initialization ≤ n))
 
 -- the numbers of a state
 pub record Numbers (s : State) : Type 0 where

@@ -15,7 +15,7 @@ use Rattle.images.specs.declared.DpcOrigin.the-variants as origin
 use Rattle.model.specs.Lists.{keep, isEmpty, given}
 use Rattle.model.specs.State.{State, Dispatcher, Dpcs, Thread, satisfied, timeout, Named, Mutex, Event, Object, mutex, event, timer, unselected, cpu0Dispatch, WaitResult}
 use Rattle.model.specs.Threads.{count, threadOf, waitOf, withThread, withObjects, withResult, firstThread, created, prioritized, yielded, terminated, blocked, next, ran, waitingNumbers}
-use Rattle.model.specs.Waits.{mutexAt, eventAt, timerAt, timersOf, putObject, ownedBy, signaledAs, waitsOn, isMet, index, takes, wake, reached, timeOut}
+use Rattle.model.specs.Waits.{onEvent, onTimer, mutexAt, eventAt, timerAt, timersOf, putObject, ownedBy, signaledAs, waitsOn, isMet, index, takes, wake, reached, timeOut}
 use Rattle.model.specs.Dpcs.{phaseAt, putDpc, isFrom, isQueued, accepted, duplicated, withdrawn, started, returned, restored}
 use Rattle.model.specs.Timers.{newTimer, armed, cancelled, dueTimers, expireEach, Expired}
 use Rattle.model.specs.Refusal.{openRefusal, createRefusal, priorityRefusal, mutexRefusal, eventRefusal, adoptRefusal, ownerNumber, releaseRefusal, signalRefusal, eventReleaseRefusal, pairs, waitRefusal, delayRefusal, yieldRefusal, terminateRefusal, unexpired, advanceRefusal, timerRefusal, dpcRefusal, isNegative, setRefusal, signedDue, setSignedRefusal, unknownTimer, unknownDpc, timerOverlapped, dpcOverlapped, timerReleaseRefusal, isUnselected, configureRefusal, insertRefusal, startRefusal, returnedRefusal, restoredRefusal, dispatchRefusal}
@@ -81,9 +81,7 @@ eventReset s key =
 
 -- the events whose key is in the released memory
 abbrev pub isRetiredEvent : ℕ → ℕ → Object → Bool
-isRetiredEvent base end (mutex m) = false
-isRetiredEvent base end (event e) = leb base (e .key) && ltb (e .key) end
-isRetiredEvent base end (timer t) = false
+isRetiredEvent base end = onEvent false (λ e. leb base (e .key) && ltb (e .key) end)
 
 -- `retire_event_backing` of the Rust: they go
 unfoldable pub eventsRetired : State → ℕ → ℕ → State
@@ -244,9 +242,7 @@ timerCancelled s address =
 
 -- the timers that overlap the released memory
 abbrev pub isRetiredTimer : ℕ → ℕ → Object → Bool
-isRetiredTimer address size (mutex m) = false
-isRetiredTimer address size (event e) = false
-isRetiredTimer address size (timer t) = timerOverlapped address size t
+isRetiredTimer address size = onTimer false (timerOverlapped address size)
 
 -- `retire_timer_backing` of the Rust: the overlapped timers and DPCs go
 unfoldable pub timersRetired : State → ℕ → ℕ → State

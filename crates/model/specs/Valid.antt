@@ -12,9 +12,9 @@ use Rattle.images.specs.declared.DpcPhase.the-variants.{Queued}
 use Rattle.images.specs.Place.{locationRefusal, timerSize, dpcSize}
 use Rattle.model.specs.Lists.{Mem, Distinct, member, countOf, present}
 use Rattle.model.specs.Table.{find, Rising}
-use Rattle.model.specs.State.{State, Limits, Dispatcher, Thread, Status, running, ready, waiting, exited, Wait, Named, Object, mutex, event, timer, Counters, Policy, unselected, cpu0Dispatch}
+use Rattle.model.specs.State.{State, Limits, Dispatcher, Thread, Status, running, ready, waiting, exited, Wait, Named, Object, Counters, Policy, unselected, cpu0Dispatch}
 use Rattle.model.specs.Threads.{count, threadAt, statusOf, priorityOf, isReady, isWaiting, isRunning, isLive, waitOf}
-use Rattle.model.specs.Waits.{keyOf, exists, canWake, reached}
+use Rattle.model.specs.Waits.{keyOf, onMutex, onTimer, exists, canWake, reached}
 use Rattle.model.specs.Dpcs.{addressOf, dpcAt, phaseAt, isQueued, isActive, isReturning, isFrom, workOf}
 use Rattle.model.specs.Timers.{lifetime}
 use Rattle.model.specs.Refusal.{hasDuplicate}
@@ -74,15 +74,11 @@ WaitingValid d (exited n) = Unit
 
 -- "owners are live"
 abbrev pub OwnerLive : Dispatcher → Object → Type 0
-OwnerLive d (mutex m) = cond (eqb (m .owner) 0) true (isLive d (m .owner)) ≡ true
-OwnerLive d (event e) = Unit
-OwnerLive d (timer t) = Unit
+OwnerLive d = onMutex Unit (λ m. cond (eqb (m .owner) 0) true (isLive d (m .owner)) ≡ true)
 
 -- "stored numbers pass their checks (16 is none of these)": no mutex or event at 0, and 15 for a timer
 abbrev pub Placed : Object → Type 0
-Placed (mutex m) = m .key ≡ 0 → ⊥
-Placed (event e) = e .key ≡ 0 → ⊥
-Placed (timer t) = locationRefusal (t .address) (timerSize (t .architecture)) (t .architecture) (t .backing) ≡ 0
+Placed x = onTimer (keyOf x ≡ 0 → ⊥) (λ t. locationRefusal (t .address) (timerSize (t .architecture)) (t .architecture) (t .backing) ≡ 0) x
 
 -- the threads and the objects, in the midst of a call too
 pub record Sound (l : Limits) (d : Dispatcher) : Type 0 where
@@ -150,19 +146,13 @@ pub record Queueing (limit : ℕ) (table : List Dpc) (queue : List ℕ) (c : Cou
 
 -- "an inserted timer's DPC, if any, exists", and work of it that is queued is the timer's own
 abbrev pub Served : List Dpc → Object → Type 0
-Served table (mutex m) = Unit
-Served table (event e) = Unit
-Served table (timer t) =
+Served table = onTimer Unit (λ t.
     t .inserted ≡ true → (t .dpc ≡ 0 → ⊥)
-    → (present (dpcAt table (t .dpc)) ≡ true) × ((w : DpcWork) → phaseAt table (t .dpc) ≡ Queued w → isFrom t (w .origin) ≡ true)
+    → (present (dpcAt table (t .dpc)) ≡ true) × ((w : DpcWork) → phaseAt table (t .dpc) ≡ Queued w → isFrom t (w .origin) ≡ true))
 
 -- ".. and serves no other"
 abbrev pub Alone : Object → Object → Type 0
-Alone (mutex m) y = Unit
-Alone (event e) y = Unit
-Alone (timer t) (mutex m) = Unit
-Alone (timer t) (event e) = Unit
-Alone (timer t) (timer u) = t .inserted ≡ true → u .inserted ≡ true → (t .dpc ≡ 0 → ⊥) → t .dpc ≡ u .dpc → t .address ≡ u .address
+Alone x y = onTimer Unit (λ t. onTimer Unit (λ u. t .inserted ≡ true → u .inserted ≡ true → (t .dpc ≡ 0 → ⊥) → t .dpc ≡ u .dpc → t .address ≡ u .address) y) x
 
 -- timers and DPCs together
 pub record Linked (objects : List Object) (table : List Dpc) : Type 0 where

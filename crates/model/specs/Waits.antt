@@ -25,6 +25,24 @@ kindOf (mutex m) = 0
 kindOf (event e) = 1
 kindOf (timer t) = 2
 
+-- what is said of a mutex, and of every other kind alike
+abbrev pub onMutex {ℓ} : {A : Type ℓ} → A → (Mutex → A) → Object → A
+onMutex b f (mutex m) = f m
+onMutex b f (event e) = b
+onMutex b f (timer t) = b
+
+-- .. of an event
+abbrev pub onEvent {ℓ} : {A : Type ℓ} → A → (Event → A) → Object → A
+onEvent b f (mutex m) = b
+onEvent b f (event e) = f e
+onEvent b f (timer t) = b
+
+-- .. of a timer
+abbrev pub onTimer {ℓ} : {A : Type ℓ} → A → (Timer → A) → Object → A
+onTimer b f (mutex m) = b
+onTimer b f (event e) = b
+onTimer b f (timer t) = f t
+
 -- the object with that key, of whatever kind
 abbrev pub objectAt : List Object → ℕ → Option Object
 objectAt l k = find keyOf l k
@@ -32,23 +50,17 @@ objectAt l k = find keyOf l k
 -- the object, if it is of the kind
 abbrev pub asMutex : Option Object → Option Mutex
 asMutex none = none
-asMutex (some (mutex m)) = some m
-asMutex (some (event e)) = none
-asMutex (some (timer t)) = none
+asMutex (some o) = onMutex none some o
 
 -- .. an event
 abbrev pub asEvent : Option Object → Option Event
 asEvent none = none
-asEvent (some (mutex m)) = none
-asEvent (some (event e)) = some e
-asEvent (some (timer t)) = none
+asEvent (some o) = onEvent none some o
 
 -- .. a timer
 abbrev pub asTimer : Option Object → Option Timer
 asTimer none = none
-asTimer (some (mutex m)) = none
-asTimer (some (event e)) = none
-asTimer (some (timer t)) = some t
+asTimer (some o) = onTimer none some o
 
 -- the mutex, the event, the timer with that key
 abbrev pub mutexAt : List Object → ℕ → Option Mutex
@@ -69,23 +81,17 @@ putObject x l = put keyOf x l
 -- the timers, rising by address; the events, rising by key
 abbrev pub timersOf : List Object → List Timer
 timersOf [] = []
-timersOf (mutex m ∷ l) = timersOf l
-timersOf (event e ∷ l) = timersOf l
-timersOf (timer t ∷ l) = t ∷ timersOf l
+timersOf (o ∷ l) = onTimer (timersOf l) (λ t. t ∷ timersOf l) o
 
 -- the events
 abbrev pub eventsOf : List Object → List Event
 eventsOf [] = []
-eventsOf (mutex m ∷ l) = eventsOf l
-eventsOf (event e ∷ l) = e ∷ eventsOf l
-eventsOf (timer t ∷ l) = eventsOf l
+eventsOf (o ∷ l) = onEvent (eventsOf l) (λ e. e ∷ eventsOf l) o
 
 -- the mutexes
 abbrev pub mutexesOf : List Object → List Mutex
 mutexesOf [] = []
-mutexesOf (mutex m ∷ l) = m ∷ mutexesOf l
-mutexesOf (event e ∷ l) = mutexesOf l
-mutexesOf (timer t ∷ l) = mutexesOf l
+mutexesOf (o ∷ l) = onMutex (mutexesOf l) (λ m. m ∷ mutexesOf l) o
 
 -- ---- changed records
 
