@@ -14,38 +14,14 @@ use borrow.Author.Needs.{needs}
 use Rattle.advancing.proofs.advance_to.Statement.{statement}
 use Rattle.advancing.proofs.advance_to.Tie as tie
 
-get-requires : tie.Need-get-requires
-get-requires c κs = search needs
-
-same-length : tie.Need-same-length
-same-length c = search needs
-
 returns : tie.Need-returns
 unfolding advanced
 returns c = simp (← (c .before .get .ensures), lt-ltb _ _ (c .if1 .taken))
-
-expire-timers-requires : tie.Need-expire-timers-requires
-expire-timers-requires c κs = search needs
-
-same-length-2 : tie.Need-same-length-2
-same-length-2 c = search needs
 
 returns-2 : tie.Need-returns-2
 unfolding advanced
 returns-2 c = let n : expiryRefusal (now (c .before .before .before .before .before .before .before .before .before .args .w)) (c .before .before .before .before .before .before .before .before .before .args .time) ≡ 0 → ⊥ = λ q. c .if2 .taken (c .before .before .before .expire-timers .ensures .0 ∙ q) in
     simp (← (c .before .before .before .before .before .before .get .ensures), le-ltb _ _ (c .before .before .before .before .before .if1 .left), ne-eqb _ _ n) (λ i. outcome (answer.Refused (c .before .before .before .expire-timers .ensures .0 i)) ((c .before .before .before .expire-timers .ensures .1 ∙ refused-unchanged (now (c .before .before .before .before .before .before .before .before .before .args .w)) (c .before .before .before .before .before .before .before .before .before .args .time) n) i))
-
-put-requires : tie.Need-put-requires
-put-requires c κs = search needs
-
-wake-requires : tie.Need-wake-requires
-wake-requires c κs = search needs
-
-expire-all-requires : tie.Need-expire-all-requires
-expire-all-requires c κs = search needs
-
-same-length-3 : tie.Need-same-length-3
-same-length-3 c = search needs
 
 returns-3 : tie.Need-returns-3
 unfolding advanced
@@ -56,14 +32,14 @@ pub advance-to-spec : {M : Type 1} → statement M
 advance-to-spec =
     tie.close
     (tie.spec
-    get-requires
-    same-length
+    (λ c κs. search needs)
+    (λ c. search needs)
     returns
-    expire-timers-requires
-    same-length-2
+    (λ c κs. search needs)
+    (λ c. search needs)
     returns-2
-    put-requires
-    wake-requires
-    expire-all-requires
-    same-length-3
+    (λ c κs. search needs)
+    (λ c κs. search needs)
+    (λ c κs. search needs)
+    (λ c. search needs)
     returns-3)

@@ -10,20 +10,11 @@ use borrow.Author.Needs.{needs}
 use Rattle.advancing.proofs.is_overdue.Statement.{statement}
 use Rattle.advancing.proofs.is_overdue.Tie as tie
 
-thread-at-requires : tie.Need-thread-at-requires
-thread-at-requires c κs = search needs
-
-get-in-requires : tie.Need-get-in-requires
-get-in-requires c κs = search needs
-
 returns : tie.Need-returns
 unfolding overdue
 returns c =
     let e : getD (now (c .before .before .before .before .args .w)) (threadAt (c .before .before .before .before .args .id) + at.state) 0 ≡ 3 → ⊥ = λ q. c .if1 .taken (cc) in
     simp (ne-eqb _ _ e)
-
-get-in-requires-2 : tie.Need-get-in-requires-2
-get-in-requires-2 c κs = search needs
 
 returns-2 : tie.Need-returns-2
 unfolding overdue
@@ -31,9 +22,6 @@ returns-2 c =
     let e : getD (now (c .before .before .before .before .before .before .args .w)) (threadAt (c .before .before .before .before .before .before .args .id) + at.state) 0 ≡ 3 = cc in
     let f : getD (now (c .before .before .before .before .before .before .args .w)) (threadAt (c .before .before .before .before .before .before .args .id) + at.hasDeadline) 0 ≡ 0 = cc in
     simp (eq-eqb _ _ e, eq-eqb _ _ f)
-
-get-in-requires-3 : tie.Need-get-in-requires-3
-get-in-requires-3 c κs = search needs
 
 returns-3 : tie.Need-returns-3
 unfolding overdue
@@ -46,10 +34,10 @@ pub is-overdue-spec : {M : Type 1} → statement M
 is-overdue-spec =
     tie.close
     (tie.spec
-    thread-at-requires
-    get-in-requires
+    (λ c κs. search needs)
+    (λ c κs. search needs)
     returns
-    get-in-requires-2
+    (λ c κs. search needs)
     returns-2
-    get-in-requires-3
+    (λ c κs. search needs)
     returns-3)

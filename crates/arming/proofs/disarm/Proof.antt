@@ -3,18 +3,9 @@ use borrow.Author.Needs.{needs}
 use Rattle.arming.proofs.disarm.Statement.{statement}
 use Rattle.arming.proofs.disarm.Tie as tie
 
-unname-requires : tie.Need-unname-requires
-unname-requires c κs = search needs
-
-put-in-requires : tie.Need-put-in-requires
-put-in-requires c κs = search needs
-
-same-length : tie.Need-same-length
-same-length c = search needs
-
 returns : tie.Need-returns
 unfolding disarmed
 returns c = cc
 
 pub disarm-spec : {M : Type 1} → statement M
-disarm-spec = tie.close (tie.spec unname-requires put-in-requires same-length returns)
+disarm-spec = tie.close (tie.spec (λ c κs. search needs) (λ c κs. search needs) (λ c. search needs) returns)

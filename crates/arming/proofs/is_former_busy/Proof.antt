@@ -8,15 +8,9 @@ returns : tie.Need-returns
 unfolding formerBusy
 returns c = simp (eq-eqb _ _ (c .if1 .taken))
 
-get-in-requires : tie.Need-get-in-requires
-get-in-requires c κs = search needs
-
 returns-2 : tie.Need-returns-2
 unfolding formerBusy
 returns-2 c = simp (ne-eqb _ _ (c .before .before .if1 .left), ← (c .before .get-in .ensures), eq-eqb _ _ (c .if2 .taken))
-
-is-busy-requires : tie.Need-is-busy-requires
-is-busy-requires c κs = search needs
 
 returns-3 : tie.Need-returns-3
 unfolding formerBusy
@@ -24,4 +18,4 @@ returns-3 c = simp (ne-eqb _ _ (c .before .before .before .if1 .left), ← (c .b
 
 pub is-former-busy-spec : {M : Type 1} → statement M
 is-former-busy-spec =
-    tie.close (tie.spec returns get-in-requires returns-2 is-busy-requires returns-3)
+    tie.close (tie.spec returns (λ c κs. search needs) returns-2 (λ c κs. search needs) returns-3)

@@ -4,9 +4,6 @@ use borrow.Author.Needs.{needs}
 use Rattle.arming.proofs.is_named_elsewhere.Statement.{statement}
 use Rattle.arming.proofs.is_named_elsewhere.Tie as tie
 
-get-in-requires : tie.Need-get-in-requires
-get-in-requires c κs = search needs
-
 returns : tie.Need-returns
 unfolding namedElsewhere
 returns c = simp (← (c .before .get-in .ensures), eq-eqb _ _ (c .if1 .taken))
@@ -16,4 +13,4 @@ unfolding namedElsewhere
 returns-2 c = simp (← (c .before .get-in .ensures), ne-eqb _ _ (c .if1 .left))
 
 pub is-named-elsewhere-spec : {M : Type 1} → statement M
-is-named-elsewhere-spec = tie.close (tie.spec get-in-requires returns returns-2)
+is-named-elsewhere-spec = tie.close (tie.spec (λ c κs. search needs) returns returns-2)

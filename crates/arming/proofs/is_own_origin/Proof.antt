@@ -5,22 +5,13 @@ use borrow.Author.Needs.{needs}
 use Rattle.arming.proofs.is_own_origin.Statement.{statement}
 use Rattle.arming.proofs.is_own_origin.Tie as tie
 
-is-same-requires : tie.Need-is-same-requires
-is-same-requires c κs = search needs
-
 returns : tie.Need-returns
 unfolding ownOrigin
 returns c = simp (sym (c .before .is-same .ensures) ∙ not-true _ (c .if1 .taken))
 
-is-same-requires-2 : tie.Need-is-same-requires-2
-is-same-requires-2 c κs = search needs
-
 returns-2 : tie.Need-returns-2
 unfolding ownOrigin
 returns-2 c = simp (sym (c .before .before .before .is-same .ensures) ∙ not-false _ (c .before .before .if1 .left), sym (c .before .is-same2 .ensures) ∙ not-true _ (c .if2 .taken))
-
-is-same-requires-3 : tie.Need-is-same-requires-3
-is-same-requires-3 c κs = search needs
 
 returns-3 : tie.Need-returns-3
 unfolding ownOrigin
@@ -29,4 +20,4 @@ returns-3 c = simp (sym (c .before .before .before .before .is-same .ensures) �
 pub is-own-origin-spec : {M : Type 1} → statement M
 is-own-origin-spec =
     tie.close
-    (tie.spec is-same-requires returns is-same-requires-2 returns-2 is-same-requires-3 returns-3)
+    (tie.spec (λ c κs. search needs) returns (λ c κs. search needs) returns-2 (λ c κs. search needs) returns-3)

@@ -5,36 +5,21 @@ use borrow.Author.Needs.{needs}
 use Rattle.arming.proofs.is_own_queued.Statement.{statement}
 use Rattle.arming.proofs.is_own_queued.Tie as tie
 
-is-inserted-requires : tie.Need-is-inserted-requires
-is-inserted-requires c κs = search needs
-
 returns : tie.Need-returns
 unfolding ownQueued
 returns c = simp (sym (c .before .is-inserted .ensures) ∙ not-true _ (c .if1 .taken))
-
-get-requires : tie.Need-get-requires
-get-requires c κs = search needs
 
 returns-2 : tie.Need-returns-2
 unfolding ownQueued
 returns-2 c = simp (sym (c .before .before .before .is-inserted .ensures) ∙ not-false _ (c .before .before .if1 .left), ← (c .before .get .ensures), eq-eqb _ _ (c .if2 .taken))
 
-get-in-requires : tie.Need-get-in-requires
-get-in-requires c κs = search needs
-
 returns-3 : tie.Need-returns-3
 unfolding ownQueued
 returns-3 c = simp (sym (c .before .before .before .before .before .is-inserted .ensures) ∙ not-false _ (c .before .before .before .before .if1 .left), ← (c .before .before .before .get .ensures), ne-eqb _ _ (c .before .before .if2 .left), ← (c .before .get-in .ensures), eq-eqb _ _ (c .if3 .taken))
 
-find-dpc-requires : tie.Need-find-dpc-requires
-find-dpc-requires c κs = search needs
-
 returns-4 : tie.Need-returns-4
 unfolding ownQueued
 returns-4 c = simp (sym (c .before .before .before .before .before .before .before .is-inserted .ensures) ∙ not-false _ (c .before .before .before .before .before .before .if1 .left), ← (c .before .before .before .before .before .get .ensures), ne-eqb _ _ (c .before .before .before .before .if2 .left), ← (c .before .before .before .get-in .ensures), ne-eqb _ _ (c .before .before .if3 .left), ← (c .before .find-dpc .ensures), eq-eqb _ _ (c .if4 .taken))
-
-is-own-work-requires : tie.Need-is-own-work-requires
-is-own-work-requires c κs = search needs
 
 returns-5 : tie.Need-returns-5
 unfolding ownQueued
@@ -44,13 +29,13 @@ pub is-own-queued-spec : {M : Type 1} → statement M
 is-own-queued-spec =
     tie.close
     (tie.spec
-    is-inserted-requires
+    (λ c κs. search needs)
     returns
-    get-requires
+    (λ c κs. search needs)
     returns-2
-    get-in-requires
+    (λ c κs. search needs)
     returns-3
-    find-dpc-requires
+    (λ c κs. search needs)
     returns-4
-    is-own-work-requires
+    (λ c κs. search needs)
     returns-5)

@@ -8,21 +8,9 @@ returns : tie.Need-returns
 unfolding named
 returns c = simp (eq-eqb _ _ (c .if1 .taken))
 
-find-dpc-requires : tie.Need-find-dpc-requires
-find-dpc-requires c κs = search needs
-
-same-length : tie.Need-same-length
-same-length c = search needs
-
 returns-2 : tie.Need-returns-2
 unfolding named
 returns-2 c = simp (ne-eqb _ _ (c .before .before .before .if1 .left), ← (c .before .find-dpc .ensures), eq-eqb _ _ (c .if2 .taken))
-
-put-in-requires : tie.Need-put-in-requires
-put-in-requires c κs = search needs
-
-same-length-2 : tie.Need-same-length-2
-same-length-2 c = search needs
 
 returns-3 : tie.Need-returns-3
 unfolding named
@@ -33,9 +21,9 @@ name-spec =
     tie.close
     (tie.spec
     returns
-    find-dpc-requires
-    same-length
+    (λ c κs. search needs)
+    (λ c. search needs)
     returns-2
-    put-in-requires
-    same-length-2
+    (λ c κs. search needs)
+    (λ c. search needs)
     returns-3)

@@ -9,22 +9,13 @@ returns : tie.Need-returns
 unfolding newRefusal
 returns c = simp (eq-eqb _ _ (c .if1 .taken))
 
-find-dpc-requires : tie.Need-find-dpc-requires
-find-dpc-requires c κs = search needs
-
 returns-2 : tie.Need-returns-2
 unfolding newRefusal
 returns-2 c = simp (ne-eqb _ _ (c .before .before .if1 .left), ← (c .before .find-dpc .ensures), eq-eqb _ _ (c .if2 .taken))
 
-is-named-elsewhere-requires : tie.Need-is-named-elsewhere-requires
-is-named-elsewhere-requires c κs = search needs
-
 returns-3 : tie.Need-returns-3
 unfolding newRefusal
 returns-3 c = simp (ne-eqb _ _ (c .before .before .before .before .if1 .left), ← (c .before .before .before .find-dpc .ensures), ne-eqb _ _ (c .before .before .if2 .left), sym (c .before .is-named-elsewhere .ensures) ∙ c .if3 .taken)
-
-is-busy-requires : tie.Need-is-busy-requires
-is-busy-requires c κs = search needs
 
 returns-4 : tie.Need-returns-4
 unfolding newRefusal
@@ -39,10 +30,10 @@ new-refusal-spec =
     tie.close
     (tie.spec
     returns
-    find-dpc-requires
+    (λ c κs. search needs)
     returns-2
-    is-named-elsewhere-requires
+    (λ c κs. search needs)
     returns-3
-    is-busy-requires
+    (λ c κs. search needs)
     returns-4
     returns-5)

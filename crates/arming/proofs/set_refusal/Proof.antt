@@ -6,25 +6,13 @@ use borrow.Author.Needs.{needs}
 use Rattle.arming.proofs.set_refusal.Statement.{statement}
 use Rattle.arming.proofs.set_refusal.Tie as tie
 
-is-negative-period-requires : tie.Need-is-negative-period-requires
-is-negative-period-requires c κs = search needs
-
 returns : tie.Need-returns
 unfolding setRefusal
 returns c = simp (tested (c .before .before .before .args .period) (c .before .before .before .fits .period) (c .before .is-negative-period .ensures) ∙ c .if1 .taken)
 
-new-refusal-requires : tie.Need-new-refusal-requires
-new-refusal-requires c κs = search needs
-
 returns-2 : tie.Need-returns-2
 unfolding setRefusal
 returns-2 c = simp (tested (c .before .before .before .before .before .args .period) (c .before .before .before .before .before .fits .period) (c .before .before .before .is-negative-period .ensures) ∙ c .before .before .if1 .left, ← (c .before .new-refusal .ensures), ne-eqb _ _ (c .if2 .taken))
-
-place-of-requires : tie.Need-place-of-requires
-place-of-requires c κs = search needs
-
-is-former-busy-requires : tie.Need-is-former-busy-requires
-is-former-busy-requires c κs = search needs
 
 returns-3 : tie.Need-returns-3
 unfolding setRefusal
@@ -33,9 +21,6 @@ returns-3 c = simp (tested (c .before .before .before .before .before .before .b
 returns-4 : tie.Need-returns-4
 unfolding setRefusal
 returns-4 c = simp (tested (c .before .before .before .before .before .before .before .before .before .args .period) (c .before .before .before .before .before .before .before .before .before .fits .period) (c .before .before .before .before .before .before .before .is-negative-period .ensures) ∙ c .before .before .before .before .before .before .if1 .left, ← (c .before .before .before .before .before .new-refusal .ensures), eq-eqb _ _ (c .before .before .before .before .if2 .left), ← (c .before .before .before .place-of .ensures), sym (c .before .before .is-former-busy .ensures) ∙ c .before .if3 .left, eq-eqb _ _ (c .if4 .taken))
-
-get-in-requires : tie.Need-get-in-requires
-get-in-requires c κs = search needs
 
 returns-5 : tie.Need-returns-5
 unfolding setRefusal
@@ -49,14 +34,14 @@ pub set-refusal-spec : {M : Type 1} → statement M
 set-refusal-spec =
     tie.close
     (tie.spec
-    is-negative-period-requires
+    (λ c κs. search needs)
     returns
-    new-refusal-requires
+    (λ c κs. search needs)
     returns-2
-    place-of-requires
-    is-former-busy-requires
+    (λ c κs. search needs)
+    (λ c κs. search needs)
     returns-3
     returns-4
-    get-in-requires
+    (λ c κs. search needs)
     returns-5
     returns-6)

@@ -11,33 +11,15 @@ use borrow.Author.Needs.{needs}
 use Rattle.arming.proofs.set_timer.Statement.{statement}
 use Rattle.arming.proofs.set_timer.Tie as tie
 
-set-refusal-requires : tie.Need-set-refusal-requires
-set-refusal-requires c κs = search needs
-
-same-length : tie.Need-same-length
-same-length c = search needs
-
 returns : tie.Need-returns
 unfolding timerSet
 returns c = let e : c .before .set-refusal .result ≡ setRefusal (now (c .before .before .before .before .args .w)) (c .before .before .before .before .args .address) (c .before .before .before .before .args .period) (c .before .before .before .before .args .dpc) = simp (toZ-ofZ (c .before .before .before .before .fits .period)) at (c .before .set-refusal .ensures) in
     simp (← e, ne-eqb _ _ (c .if1 .taken))
 
-place-of-requires : tie.Need-place-of-requires
-place-of-requires c κs = search needs
-
-is-inserted-requires : tie.Need-is-inserted-requires
-is-inserted-requires c κs = search needs
-
 setting-of-requires : tie.Need-setting-of-requires
 setting-of-requires c κs = let e : c .before .before .before .before .before .before .set-refusal .result ≡ setRefusal (now (c .before .before .before .before .before .before .before .before .before .args .w)) (c .before .before .before .before .before .before .before .before .before .args .address) (c .before .before .before .before .before .before .before .before .before .args .period) (c .before .before .before .before .before .before .before .before .before .args .dpc) = simp (toZ-ofZ (c .before .before .before .before .before .before .before .before .before .fits .period)) at (c .before .before .before .before .before .before .set-refusal .ensures) in
     let g : getD (now (c .before .before .before .before .before .before .before .before .before .args .w)) (c .before .before .before .place-of .result + 10) 0 ≡ 18446744073709551615 → ⊥ = λ q. arm-left (now (c .before .before .before .before .before .before .before .before .before .args .w)) (c .before .before .before .before .before .before .before .before .before .args .address) (c .before .before .before .before .before .before .before .before .before .args .period) (c .before .before .before .before .before .before .before .before .before .args .dpc) (sym e ∙ c .before .before .before .before .before .if1 .left) (cc) in
     omega (arith, g, c .before .before .before .before .before .before .before .before .slice-known .given (c .before .before .before .place-of .result + 10))
-
-arm-requires : tie.Need-arm-requires
-arm-requires c κs = search needs
-
-same-length-2 : tie.Need-same-length-2
-same-length-2 c = search needs
 
 returns-2 : tie.Need-returns-2
 unfolding timerSet
@@ -49,12 +31,12 @@ pub set-timer-spec : {M : Type 1} → statement M
 set-timer-spec =
     tie.close
     (tie.spec
-    set-refusal-requires
-    same-length
+    (λ c κs. search needs)
+    (λ c. search needs)
     returns
-    place-of-requires
-    is-inserted-requires
+    (λ c κs. search needs)
+    (λ c κs. search needs)
     setting-of-requires
-    arm-requires
-    same-length-2
+    (λ c κs. search needs)
+    (λ c. search needs)
     returns-2)

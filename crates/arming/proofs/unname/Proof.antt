@@ -5,24 +5,9 @@ use borrow.Author.Needs.{needs}
 use Rattle.arming.proofs.unname.Statement.{statement}
 use Rattle.arming.proofs.unname.Tie as tie
 
-is-inserted-requires : tie.Need-is-inserted-requires
-is-inserted-requires c κs = search needs
-
-same-length : tie.Need-same-length
-same-length c = search needs
-
 returns : tie.Need-returns
 unfolding unnamed
 returns c = simp (sym (c .before .is-inserted .ensures) ∙ not-true _ (c .if1 .taken))
-
-get-in-requires : tie.Need-get-in-requires
-get-in-requires c κs = search needs
-
-name-requires : tie.Need-name-requires
-name-requires c κs = search needs
-
-same-length-2 : tie.Need-same-length-2
-same-length-2 c = search needs
 
 returns-2 : tie.Need-returns-2
 unfolding unnamed
@@ -32,10 +17,10 @@ pub unname-spec : {M : Type 1} → statement M
 unname-spec =
     tie.close
     (tie.spec
-    is-inserted-requires
-    same-length
+    (λ c κs. search needs)
+    (λ c. search needs)
     returns
-    get-in-requires
-    name-requires
-    same-length-2
+    (λ c κs. search needs)
+    (λ c κs. search needs)
+    (λ c. search needs)
     returns-2)

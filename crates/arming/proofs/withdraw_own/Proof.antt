@@ -8,18 +8,6 @@ returns : tie.Need-returns
 unfolding withdrawnOwn
 returns c = simp (not-true (c .before .before .args .own) (c .if1 .taken))
 
-get-in-requires : tie.Need-get-in-requires
-get-in-requires c κs = search needs
-
-number-of-requires : tie.Need-number-of-requires
-number-of-requires c κs = search needs
-
-withdraw-requires : tie.Need-withdraw-requires
-withdraw-requires c κs = search needs
-
-same-length : tie.Need-same-length
-same-length c = search needs
-
 returns-2 : tie.Need-returns-2
 unfolding withdrawnOwn
 returns-2 c = simp (not-false (c .before .before .before .before .before .before .before .before .before .args .own) (c .before .before .before .before .before .before .before .if1 .left)) (cc)
@@ -27,4 +15,4 @@ returns-2 c = simp (not-false (c .before .before .before .before .before .before
 pub withdraw-own-spec : {M : Type 1} → statement M
 withdraw-own-spec =
     tie.close
-    (tie.spec returns get-in-requires number-of-requires withdraw-requires same-length returns-2)
+    (tie.spec returns (λ c κs. search needs) (λ c κs. search needs) (λ c κs. search needs) (λ c. search needs) returns-2)

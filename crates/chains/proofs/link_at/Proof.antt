@@ -6,18 +6,9 @@ use borrow.Author.Needs.{needs}
 use Rattle.chains.proofs.link_at.Statement.{statement}
 use Rattle.chains.proofs.link_at.Tie as tie
 
-cast-result : tie.Need-cast-result
-cast-result c = search needs
-
 returns : tie.Need-returns
 unfolding linkAt
 returns c = simp (eq-eqb _ _ (c .before .if1 .taken))
-
-cast-result-2 : tie.Need-cast-result-2
-cast-result-2 c = search needs
-
-cast-result-3 : tie.Need-cast-result-3
-cast-result-3 c = search needs
 
 mul-result : tie.Need-mul-result
 mul-result c = omega (arith, span (c .before .before .before .before .args .c .stride) (c .before .before .before .before .args .before) (c .struct-known3 .given .1 .1 .1 .0 .fits) (c .before .before .if2 .taken))
@@ -29,9 +20,6 @@ returns-2 : tie.Need-returns-2
 unfolding linkAt
 returns-2 c = simp (ne-eqb _ _ (c .before .before .before .if1 .left), le-leb _ _ (c .before .before .if2 .taken))
 
-cast-result-4 : tie.Need-cast-result-4
-cast-result-4 c = search needs
-
 returns-3 : tie.Need-returns-3
 unfolding linkAt
 returns-3 c = simp (ne-eqb _ _ (c .before .before .if1 .left), lt-leb _ _ (c .before .if2 .left))
@@ -40,12 +28,12 @@ pub link-at-spec : {M : Type 1} → statement M
 link-at-spec =
     tie.close
     (tie.spec
-    cast-result
+    (λ c. search needs)
     returns
-    cast-result-2
-    cast-result-3
+    (λ c. search needs)
+    (λ c. search needs)
     mul-result
     add-result
     returns-2
-    cast-result-4
+    (λ c. search needs)
     returns-3)

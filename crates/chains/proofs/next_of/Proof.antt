@@ -3,15 +3,9 @@ use borrow.Author.Needs.{needs}
 use Rattle.chains.proofs.next_of.Statement.{statement}
 use Rattle.chains.proofs.next_of.Tie as tie
 
-link-at-requires : tie.Need-link-at-requires
-link-at-requires c κs = search needs
-
-get-requires : tie.Need-get-requires
-get-requires c κs = search needs
-
 returns : tie.Need-returns
 unfolding nextOf
 returns c = cc
 
 pub next-of-spec : {M : Type 1} → statement M
-next-of-spec = tie.close (tie.spec link-at-requires get-requires returns)
+next-of-spec = tie.close (tie.spec (λ c κs. search needs) (λ c κs. search needs) returns)

@@ -9,24 +9,9 @@ returns : tie.Need-returns
 unfolding answered
 returns c = simp (lt-ltb _ _ (c .if1 .taken))
 
-enum-known-reading : tie.Need-enum-known-reading
-enum-known-reading c = search needs
-
-error-number-requires : tie.Need-error-number-requires
-error-number-requires c κs = search needs
-
-enum-known-reading-2 : tie.Need-enum-known-reading-2
-enum-known-reading-2 c = search needs
-
-put-requires : tie.Need-put-requires
-put-requires c κs = search needs
-
 returns-2 : tie.Need-returns-2
 unfolding answered placed
 returns-2 c = simp (le-ltb _ _ (c .before .before .before .before .if1 .left), c .before .before .reading .given .1) (cc)
-
-same-length : tie.Need-same-length
-same-length c = search needs
 
 returns-3 : tie.Need-returns-3
 unfolding answered placed
@@ -37,10 +22,10 @@ answer-spec =
     tie.close
     (tie.spec
     returns
-    enum-known-reading
-    error-number-requires
-    enum-known-reading-2
-    put-requires
+    (λ c. search needs)
+    (λ c κs. search needs)
+    (λ c. search needs)
+    (λ c κs. search needs)
     returns-2
-    same-length
+    (λ c. search needs)
     returns-3)

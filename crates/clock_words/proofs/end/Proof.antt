@@ -5,18 +5,9 @@ use borrow.Author.Needs.{needs}
 use Rattle.clock_words.proofs.end.Statement.{statement}
 use Rattle.clock_words.proofs.end.Tie as tie
 
-refusal-number-requires : tie.Need-refusal-number-requires
-refusal-number-requires c κs = search needs
-
 returns : tie.Need-returns
 unfolding ended
 returns c = simp (sym (c .before .refusal-number .ensures) ∙ c .if1 .taken)
-
-store-requires : tie.Need-store-requires
-store-requires c κs = search needs
-
-same-length : tie.Need-same-length
-same-length c = search needs
 
 returns-2 : tie.Need-returns-2
 unfolding ended
@@ -24,4 +15,4 @@ returns-2 c = simp (← (c .before .before .before .before .before .before .refu
 
 pub end-spec : {M : Type 1} → statement M
 end-spec =
-    tie.close (tie.spec refusal-number-requires returns store-requires same-length returns-2)
+    tie.close (tie.spec (λ c κs. search needs) returns (λ c κs. search needs) (λ c. search needs) returns-2)

@@ -4,9 +4,6 @@ use borrow.Author.Needs.{needs}
 use Rattle.clock_words.proofs.fitted_u32.Statement.{statement}
 use Rattle.clock_words.proofs.fitted_u32.Tie as tie
 
-cast-result : tie.Need-cast-result
-cast-result c = search needs
-
 returns : tie.Need-returns
 unfolding fitted
 returns c = simp (le-leb _ _ (c .if1 .taken))
@@ -16,4 +13,4 @@ unfolding fitted
 returns-2 c = simp (lt-leb _ _ (c .if1 .left))
 
 pub fitted-u32-spec : {M : Type 1} → statement M
-fitted-u32-spec = tie.close (tie.spec cast-result returns returns-2)
+fitted-u32-spec = tie.close (tie.spec (λ c. search needs) returns returns-2)

@@ -10,39 +10,6 @@ use borrow.Author.Needs.{needs}
 use Rattle.clock_words.proofs.load.Statement.{statement}
 use Rattle.clock_words.proofs.load.Tie as tie
 
-get-requires : tie.Need-get-requires
-get-requires c κs = search needs
-
-get-requires-2 : tie.Need-get-requires-2
-get-requires-2 c κs = search needs
-
-get-requires-3 : tie.Need-get-requires-3
-get-requires-3 c κs = search needs
-
-fitted-u32-requires : tie.Need-fitted-u32-requires
-fitted-u32-requires c κs = search needs
-
-get-requires-4 : tie.Need-get-requires-4
-get-requires-4 c κs = search needs
-
-offset-at-requires : tie.Need-offset-at-requires
-offset-at-requires c κs = search needs
-
-get-requires-5 : tie.Need-get-requires-5
-get-requires-5 c κs = search needs
-
-fitted-u32-requires-2 : tie.Need-fitted-u32-requires-2
-fitted-u32-requires-2 c κs = search needs
-
-get-requires-6 : tie.Need-get-requires-6
-get-requires-6 c κs = search needs
-
-get-requires-7 : tie.Need-get-requires-7
-get-requires-7 c κs = search needs
-
-fitted-u16-requires : tie.Need-fitted-u16-requires
-fitted-u16-requires c κs = search needs
-
 returns : tie.Need-returns
 unfolding clockAt
 returns c = λ i. record {
@@ -59,15 +26,15 @@ pub load-spec : {M : Type 1} → statement M
 load-spec =
     tie.close
     (tie.spec
-    get-requires
-    get-requires-2
-    get-requires-3
-    fitted-u32-requires
-    get-requires-4
-    offset-at-requires
-    get-requires-5
-    fitted-u32-requires-2
-    get-requires-6
-    get-requires-7
-    fitted-u16-requires
+    (λ c κs. search needs)
+    (λ c κs. search needs)
+    (λ c κs. search needs)
+    (λ c κs. search needs)
+    (λ c κs. search needs)
+    (λ c κs. search needs)
+    (λ c κs. search needs)
+    (λ c κs. search needs)
+    (λ c κs. search needs)
+    (λ c κs. search needs)
+    (λ c κs. search needs)
     returns)

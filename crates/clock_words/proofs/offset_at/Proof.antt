@@ -6,9 +6,6 @@ use borrow.Author.Needs.{needs}
 use Rattle.clock_words.proofs.offset_at.Statement.{statement}
 use Rattle.clock_words.proofs.offset_at.Tie as tie
 
-cast-result : tie.Need-cast-result
-cast-result c = search needs
-
 sub-result : tie.Need-sub-result
 sub-result c = difference-fits (c .before .args .word) (omega arith)
 
@@ -20,4 +17,4 @@ unfolding offsetAt
 returns-2 c = simp (lt-leb _ _ (c .if1 .left))
 
 pub offset-at-spec : {M : Type 1} → statement M
-offset-at-spec = tie.close (tie.spec cast-result sub-result returns returns-2)
+offset-at-spec = tie.close (tie.spec (λ c. search needs) sub-result returns returns-2)

@@ -3,9 +3,6 @@ use borrow.Author.Needs.{needs}
 use Rattle.clock_words.proofs.offset_word.Statement.{statement}
 use Rattle.clock_words.proofs.offset_word.Tie as tie
 
-offset-in-range-requires : tie.Need-offset-in-range-requires
-offset-in-range-requires c κs = search needs
-
 returns : tie.Need-returns
 returns c = out-of-range (c .before .before .before .args .c .«utc_offset_minutes») (c .before .before .struct-told .given .1 .1 .1 .0 .1) (c .before .offset-in-range .ensures) (c .if1 .taken)
 
@@ -20,4 +17,4 @@ returns-2 c = cast-is (c .before .before .before .args .c .«utc_offset_minutes�
 
 pub offset-word-spec : {M : Type 1} → statement M
 offset-word-spec =
-    tie.close (tie.spec offset-in-range-requires returns add-result cast-result returns-2)
+    tie.close (tie.spec (λ c κs. search needs) returns add-result cast-result returns-2)

@@ -3,15 +3,9 @@ use borrow.Author.Needs.{needs}
 use Rattle.dpc_queue.proofs.is_queued.Statement.{statement}
 use Rattle.dpc_queue.proofs.is_queued.Tie as tie
 
-place-requires : tie.Need-place-requires
-place-requires c κs = search needs
-
-get-in-requires : tie.Need-get-in-requires
-get-in-requires c κs = search needs
-
 returns : tie.Need-returns
 unfolding queued
 returns c = cc
 
 pub is-queued-spec : {M : Type 1} → statement M
-is-queued-spec = tie.close (tie.spec place-requires get-in-requires returns)
+is-queued-spec = tie.close (tie.spec (λ c κs. search needs) (λ c κs. search needs) returns)

@@ -4,18 +4,9 @@ use borrow.Author.Needs.{needs}
 use Rattle.dpc_reads.proofs.active_dpc.Statement.{statement}
 use Rattle.dpc_reads.proofs.active_dpc.Tie as tie
 
-get-requires : tie.Need-get-requires
-get-requires c κs = search needs
-
 returns : tie.Need-returns
 unfolding activeDpc
 returns c = simp (← (c .before .get .ensures), eq-eqb _ _ (c .if1 .taken))
-
-number-of-requires : tie.Need-number-of-requires
-number-of-requires c κs = search needs
-
-dpc-numbered-requires : tie.Need-dpc-numbered-requires
-dpc-numbered-requires c κs = search needs
 
 returns-2 : tie.Need-returns-2
 unfolding activeDpc
@@ -23,4 +14,4 @@ returns-2 c = simp (← (c .before .before .before .get .ensures), ne-eqb _ _ (c
 
 pub active-dpc-spec : {M : Type 1} → statement M
 active-dpc-spec =
-    tie.close (tie.spec get-requires returns number-of-requires dpc-numbered-requires returns-2)
+    tie.close (tie.spec (λ c κs. search needs) returns (λ c κs. search needs) (λ c κs. search needs) returns-2)

@@ -4,19 +4,13 @@ use borrow.Author.Needs.{needs}
 use Rattle.dpc_reads.proofs.dpc.Statement.{statement}
 use Rattle.dpc_reads.proofs.dpc.Tie as tie
 
-number-of-requires : tie.Need-number-of-requires
-number-of-requires c κs = search needs
-
 returns : tie.Need-returns
 unfolding dpcRead
 returns c = simp (← (c .before .number-of .ensures), eq-eqb _ _ (c .if1 .taken))
-
-dpc-numbered-requires : tie.Need-dpc-numbered-requires
-dpc-numbered-requires c κs = search needs
 
 returns-2 : tie.Need-returns-2
 unfolding dpcRead
 returns-2 c = simp (← (c .before .before .number-of .ensures), ne-eqb _ _ (c .before .if1 .left)) (cc)
 
 pub dpc-spec : {M : Type 1} → statement M
-dpc-spec = tie.close (tie.spec number-of-requires returns dpc-numbered-requires returns-2)
+dpc-spec = tie.close (tie.spec (λ c κs. search needs) returns (λ c κs. search needs) returns-2)

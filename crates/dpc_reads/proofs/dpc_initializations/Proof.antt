@@ -3,12 +3,9 @@ use borrow.Author.Needs.{needs}
 use Rattle.dpc_reads.proofs.dpc_initializations.Statement.{statement}
 use Rattle.dpc_reads.proofs.dpc_initializations.Tie as tie
 
-get-requires : tie.Need-get-requires
-get-requires c κs = search needs
-
 returns : tie.Need-returns
 unfolding initializationsRead
 returns c = cc
 
 pub dpc-initializations-spec : {M : Type 1} → statement M
-dpc-initializations-spec = tie.close (tie.spec get-requires returns)
+dpc-initializations-spec = tie.close (tie.spec (λ c κs. search needs) returns)

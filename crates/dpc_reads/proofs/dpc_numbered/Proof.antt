@@ -8,15 +8,9 @@ returns : tie.Need-returns
 unfolding dpcNumbered
 returns c = simp (eq-eqb _ _ (c .if1 .taken))
 
-place-requires : tie.Need-place-requires
-place-requires c κs = search needs
-
-read-dpc-requires : tie.Need-read-dpc-requires
-read-dpc-requires c κs = search needs
-
 returns-2 : tie.Need-returns-2
 unfolding dpcNumbered
 returns-2 c = simp (ne-eqb _ _ (c .before .before .if1 .left)) (cc)
 
 pub dpc-numbered-spec : {M : Type 1} → statement M
-dpc-numbered-spec = tie.close (tie.spec returns place-requires read-dpc-requires returns-2)
+dpc-numbered-spec = tie.close (tie.spec returns (λ c κs. search needs) (λ c κs. search needs) returns-2)

@@ -4,22 +4,13 @@ use borrow.Author.Needs.{needs}
 use Rattle.dpc_reads.proofs.dpc_policy.Statement.{statement}
 use Rattle.dpc_reads.proofs.dpc_policy.Tie as tie
 
-get-requires : tie.Need-get-requires
-get-requires c κs = search needs
-
 returns : tie.Need-returns
 unfolding policyRead
 returns c = simp (← (c .before .get .ensures), eq-eqb _ _ (c .if1 .taken))
-
-get-requires-2 : tie.Need-get-requires-2
-get-requires-2 c κs = search needs
-
-get-requires-3 : tie.Need-get-requires-3
-get-requires-3 c κs = search needs
 
 returns-2 : tie.Need-returns-2
 unfolding policyRead
 returns-2 c = simp (← (c .before .before .before .get .ensures), ne-eqb _ _ (c .before .before .if1 .left)) (cc)
 
 pub dpc-policy-spec : {M : Type 1} → statement M
-dpc-policy-spec = tie.close (tie.spec get-requires returns get-requires-2 get-requires-3 returns-2)
+dpc-policy-spec = tie.close (tie.spec (λ c κs. search needs) returns (λ c κs. search needs) (λ c κs. search needs) returns-2)

@@ -4,18 +4,9 @@ use borrow.Author.Needs.{needs}
 use Rattle.dpc_reads.proofs.dpcs_at.Statement.{statement}
 use Rattle.dpc_reads.proofs.dpcs_at.Tie as tie
 
-get-requires : tie.Need-get-requires
-get-requires c κs = search needs
-
 returns : tie.Need-returns
 unfolding dpcsAt
 returns c = simp (← (c .before .get .ensures), le-leb _ _ (c .if1 .taken))
-
-add-dpc-numbered : tie.Need-add-dpc-numbered
-add-dpc-numbered c = search needs
-
-dpc-numbered-requires : tie.Need-dpc-numbered-requires
-dpc-numbered-requires c κs = search needs
 
 returns-2 : tie.Need-returns-2
 unfolding dpcsAt
@@ -23,4 +14,4 @@ returns-2 c = simp (← (c .before .before .get .ensures), lt-leb _ _ (c .before
 
 pub dpcs-at-spec : {M : Type 1} → statement M
 dpcs-at-spec =
-    tie.close (tie.spec get-requires returns add-dpc-numbered dpc-numbered-requires returns-2)
+    tie.close (tie.spec (λ c κs. search needs) returns (λ c. search needs) (λ c κs. search needs) returns-2)

@@ -4,21 +4,9 @@ use borrow.Author.Needs.{needs}
 use Rattle.dpc_reads.proofs.next_dpc.Statement.{statement}
 use Rattle.dpc_reads.proofs.next_dpc.Tie as tie
 
-get-requires : tie.Need-get-requires
-get-requires c κs = search needs
-
 returns : tie.Need-returns
 unfolding nextDpc
 returns c = simp (← (c .before .get .ensures), ne-eqb _ _ (c .if1 .taken))
-
-queue-chain-requires : tie.Need-queue-chain-requires
-queue-chain-requires c κs = search needs
-
-first-of-requires : tie.Need-first-of-requires
-first-of-requires c κs = search needs
-
-dpc-numbered-requires : tie.Need-dpc-numbered-requires
-dpc-numbered-requires c κs = search needs
 
 returns-2 : tie.Need-returns-2
 unfolding nextDpc
@@ -28,9 +16,9 @@ pub next-dpc-spec : {M : Type 1} → statement M
 next-dpc-spec =
     tie.close
     (tie.spec
-    get-requires
+    (λ c κs. search needs)
     returns
-    queue-chain-requires
-    first-of-requires
-    dpc-numbered-requires
+    (λ c κs. search needs)
+    (λ c κs. search needs)
+    (λ c κs. search needs)
     returns-2)

@@ -8,18 +8,9 @@ returns : tie.Need-returns
 unfolding queuedDpcs
 returns c = simp (lt-ltb _ _ (c .if1 .taken))
 
-queued-number-requires : tie.Need-queued-number-requires
-queued-number-requires c κs = search needs
-
 returns-2 : tie.Need-returns-2
 unfolding queuedDpcs
 returns-2 c = simp (le-ltb _ _ (c .before .before .if1 .left), ← (c .before .queued-number .ensures), eq-eqb _ _ (c .if2 .taken))
-
-place-requires : tie.Need-place-requires
-place-requires c κs = search needs
-
-get-in-requires : tie.Need-get-in-requires
-get-in-requires c κs = search needs
 
 returns-3 : tie.Need-returns-3
 unfolding queuedDpcs
@@ -28,4 +19,4 @@ returns-3 c = simp (le-ltb _ _ (c .before .before .before .before .if1 .left), �
 pub queued-dpcs-spec : {M : Type 1} → statement M
 queued-dpcs-spec =
     tie.close
-    (tie.spec returns queued-number-requires returns-2 place-requires get-in-requires returns-3)
+    (tie.spec returns (λ c κs. search needs) returns-2 (λ c κs. search needs) (λ c κs. search needs) returns-3)

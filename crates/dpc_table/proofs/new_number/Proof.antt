@@ -8,15 +8,9 @@ returns : tie.Need-returns
 unfolding newNumber
 returns c = simp (eq-eqb _ _ (c .if1 .taken))
 
-place-requires : tie.Need-place-requires
-place-requires c κs = search needs
-
-get-in-requires : tie.Need-get-in-requires
-get-in-requires c κs = search needs
-
 returns-2 : tie.Need-returns-2
 unfolding newNumber
 returns-2 c = simp (ne-eqb _ _ (c .before .before .if1 .left)) (cc)
 
 pub new-number-spec : {M : Type 1} → statement M
-new-number-spec = tie.close (tie.spec returns place-requires get-in-requires returns-2)
+new-number-spec = tie.close (tie.spec returns (λ c κs. search needs) (λ c κs. search needs) returns-2)

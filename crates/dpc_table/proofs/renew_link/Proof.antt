@@ -3,21 +3,6 @@ use borrow.Author.Needs.{needs}
 use Rattle.dpc_table.proofs.renew_link.Statement.{statement}
 use Rattle.dpc_table.proofs.renew_link.Tie as tie
 
-next-of-requires : tie.Need-next-of-requires
-next-of-requires c κs = search needs
-
-new-number-requires : tie.Need-new-number-requires
-new-number-requires c κs = search needs
-
-link-at-requires : tie.Need-link-at-requires
-link-at-requires c κs = search needs
-
-put-requires : tie.Need-put-requires
-put-requires c κs = search needs
-
-same-length : tie.Need-same-length
-same-length c = search needs
-
 returns : tie.Need-returns
 unfolding linkRenewed
 returns c = (cc, cc)
@@ -26,9 +11,9 @@ pub renew-link-spec : {M : Type 1} → statement M
 renew-link-spec =
     tie.close
     (tie.spec
-    next-of-requires
-    new-number-requires
-    link-at-requires
-    put-requires
-    same-length
+    (λ c κs. search needs)
+    (λ c κs. search needs)
+    (λ c κs. search needs)
+    (λ c κs. search needs)
+    (λ c. search needs)
     returns)

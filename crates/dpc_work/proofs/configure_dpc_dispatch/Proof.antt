@@ -4,21 +4,9 @@ use borrow.Author.Needs.{needs}
 use Rattle.dpc_work.proofs.configure_dpc_dispatch.Statement.{statement}
 use Rattle.dpc_work.proofs.configure_dpc_dispatch.Tie as tie
 
-configure-refusal-requires : tie.Need-configure-refusal-requires
-configure-refusal-requires c κs = search needs
-
-same-length : tie.Need-same-length
-same-length c = search needs
-
 returns : tie.Need-returns
 unfolding configured
 returns c = simp (← (c .before .configure-refusal .ensures), ne-eqb _ _ (c .if1 .taken))
-
-set-policy-requires : tie.Need-set-policy-requires
-set-policy-requires c κs = search needs
-
-same-length-2 : tie.Need-same-length-2
-same-length-2 c = search needs
 
 returns-2 : tie.Need-returns-2
 unfolding configured
@@ -28,9 +16,9 @@ pub configure-dpc-dispatch-spec : {M : Type 1} → statement M
 configure-dpc-dispatch-spec =
     tie.close
     (tie.spec
-    configure-refusal-requires
-    same-length
+    (λ c κs. search needs)
+    (λ c. search needs)
     returns
-    set-policy-requires
-    same-length-2
+    (λ c κs. search needs)
+    (λ c. search needs)
     returns-2)

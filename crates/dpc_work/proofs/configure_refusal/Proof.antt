@@ -5,9 +5,6 @@ use borrow.Author.Needs.{needs}
 use Rattle.dpc_work.proofs.configure_refusal.Statement.{statement}
 use Rattle.dpc_work.proofs.configure_refusal.Tie as tie
 
-is-untouched-requires : tie.Need-is-untouched-requires
-is-untouched-requires c κs = search needs
-
 returns : tie.Need-returns
 unfolding configureRefusal
 returns c = simp (sym (c .before .is-untouched .ensures) ∙ not-true _ (c .if1 .taken))
@@ -30,4 +27,4 @@ returns-5 c = simp (sym (c .before .before .before .before .is-untouched .ensure
 
 pub configure-refusal-spec : {M : Type 1} → statement M
 configure-refusal-spec =
-    tie.close (tie.spec is-untouched-requires returns returns-2 returns-3 returns-4 returns-5)
+    tie.close (tie.spec (λ c κs. search needs) returns returns-2 returns-3 returns-4 returns-5)

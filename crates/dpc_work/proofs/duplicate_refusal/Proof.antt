@@ -4,15 +4,9 @@ use borrow.Author.Needs.{needs}
 use Rattle.dpc_work.proofs.duplicate_refusal.Statement.{statement}
 use Rattle.dpc_work.proofs.duplicate_refusal.Tie as tie
 
-get-in-requires : tie.Need-get-in-requires
-get-in-requires c κs = search needs
-
 returns : tie.Need-returns
 unfolding duplicateRefusal
 returns c = simp (← (c .before .get-in .ensures), ne-eqb _ _ (c .if1 .taken))
-
-get-requires : tie.Need-get-requires
-get-requires c κs = search needs
 
 returns-2 : tie.Need-returns-2
 unfolding duplicateRefusal
@@ -24,4 +18,4 @@ returns-3 c = simp (← (c .before .before .before .get-in .ensures), eq-eqb _ _
 
 pub duplicate-refusal-spec : {M : Type 1} → statement M
 duplicate-refusal-spec =
-    tie.close (tie.spec get-in-requires returns get-requires returns-2 returns-3)
+    tie.close (tie.spec (λ c κs. search needs) returns (λ c κs. search needs) returns-2 returns-3)

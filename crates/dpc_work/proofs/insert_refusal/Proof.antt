@@ -5,29 +5,17 @@ use borrow.Author.Needs.{needs}
 use Rattle.dpc_work.proofs.insert_refusal.Statement.{statement}
 use Rattle.dpc_work.proofs.insert_refusal.Tie as tie
 
-is-named-requires : tie.Need-is-named-requires
-is-named-requires c κs = search needs
-
 returns : tie.Need-returns
 unfolding insertRefusal
 returns c = simp (sym (c .before .is-named .ensures) ∙ c .if1 .taken)
-
-get-requires : tie.Need-get-requires
-get-requires c κs = search needs
 
 returns-2 : tie.Need-returns-2
 unfolding insertRefusal
 returns-2 c = simp (sym (c .before .before .before .is-named .ensures) ∙ c .before .before .if1 .left, ← (c .before .get .ensures), eq-eqb _ _ (c .if2 .taken))
 
-number-of-requires : tie.Need-number-of-requires
-number-of-requires c κs = search needs
-
 returns-3 : tie.Need-returns-3
 unfolding insertRefusal
 returns-3 c = simp (sym (c .before .before .before .before .before .is-named .ensures) ∙ c .before .before .before .before .if1 .left, ← (c .before .before .before .get .ensures), ne-eqb _ _ (c .before .before .if2 .left), ← (c .before .number-of .ensures), eq-eqb _ _ (c .if3 .taken))
-
-work-refusal-requires : tie.Need-work-refusal-requires
-work-refusal-requires c κs = search needs
 
 returns-4 : tie.Need-returns-4
 unfolding insertRefusal
@@ -37,11 +25,11 @@ pub insert-refusal-spec : {M : Type 1} → statement M
 insert-refusal-spec =
     tie.close
     (tie.spec
-    is-named-requires
+    (λ c κs. search needs)
     returns
-    get-requires
+    (λ c κs. search needs)
     returns-2
-    number-of-requires
+    (λ c κs. search needs)
     returns-3
-    work-refusal-requires
+    (λ c κs. search needs)
     returns-4)

@@ -4,57 +4,33 @@ use borrow.Author.Needs.{needs}
 use Rattle.dpc_work.proofs.is_untouched.Statement.{statement}
 use Rattle.dpc_work.proofs.is_untouched.Tie as tie
 
-get-requires : tie.Need-get-requires
-get-requires c κs = search needs
-
 returns : tie.Need-returns
 unfolding untouched
 returns c = simp (← (c .before .get .ensures), ne-eqb _ _ (c .if1 .taken))
-
-get-requires-2 : tie.Need-get-requires-2
-get-requires-2 c κs = search needs
 
 returns-2 : tie.Need-returns-2
 unfolding untouched
 returns-2 c = simp (← (c .before .before .before .get .ensures), eq-eqb _ _ (c .before .before .if1 .left), ← (c .before .get2 .ensures), ne-eqb _ _ (c .if2 .taken))
 
-get-requires-3 : tie.Need-get-requires-3
-get-requires-3 c κs = search needs
-
 returns-3 : tie.Need-returns-3
 unfolding untouched
 returns-3 c = simp (← (c .before .before .before .before .before .get .ensures), eq-eqb _ _ (c .before .before .before .before .if1 .left), ← (c .before .before .before .get2 .ensures), eq-eqb _ _ (c .before .before .if2 .left), ← (c .before .get3 .ensures), ne-eqb _ _ (c .if3 .taken))
-
-get-requires-4 : tie.Need-get-requires-4
-get-requires-4 c κs = search needs
 
 returns-4 : tie.Need-returns-4
 unfolding untouched
 returns-4 c = simp (← (c .before .before .before .before .before .before .before .get .ensures), eq-eqb _ _ (c .before .before .before .before .before .before .if1 .left), ← (c .before .before .before .before .before .get2 .ensures), eq-eqb _ _ (c .before .before .before .before .if2 .left), ← (c .before .before .before .get3 .ensures), eq-eqb _ _ (c .before .before .if3 .left), ← (c .before .get4 .ensures), ne-eqb _ _ (c .if4 .taken))
 
-get-requires-5 : tie.Need-get-requires-5
-get-requires-5 c κs = search needs
-
 returns-5 : tie.Need-returns-5
 unfolding untouched
 returns-5 c = simp (← (c .before .before .before .before .before .before .before .before .before .get .ensures), eq-eqb _ _ (c .before .before .before .before .before .before .before .before .if1 .left), ← (c .before .before .before .before .before .before .before .get2 .ensures), eq-eqb _ _ (c .before .before .before .before .before .before .if2 .left), ← (c .before .before .before .before .before .get3 .ensures), eq-eqb _ _ (c .before .before .before .before .if3 .left), ← (c .before .before .before .get4 .ensures), eq-eqb _ _ (c .before .before .if4 .left), ← (c .before .get5 .ensures), ne-eqb _ _ (c .if5 .taken))
-
-get-requires-6 : tie.Need-get-requires-6
-get-requires-6 c κs = search needs
 
 returns-6 : tie.Need-returns-6
 unfolding untouched
 returns-6 c = simp (← (c .before .before .before .before .before .before .before .before .before .before .before .get .ensures), eq-eqb _ _ (c .before .before .before .before .before .before .before .before .before .before .if1 .left), ← (c .before .before .before .before .before .before .before .before .before .get2 .ensures), eq-eqb _ _ (c .before .before .before .before .before .before .before .before .if2 .left), ← (c .before .before .before .before .before .before .before .get3 .ensures), eq-eqb _ _ (c .before .before .before .before .before .before .if3 .left), ← (c .before .before .before .before .before .get4 .ensures), eq-eqb _ _ (c .before .before .before .before .if4 .left), ← (c .before .before .before .get5 .ensures), eq-eqb _ _ (c .before .before .if5 .left), ← (c .before .get6 .ensures), ne-eqb _ _ (c .if6 .taken))
 
-get-requires-7 : tie.Need-get-requires-7
-get-requires-7 c κs = search needs
-
 returns-7 : tie.Need-returns-7
 unfolding untouched
 returns-7 c = simp (← (c .before .before .before .before .before .before .before .before .before .before .before .before .before .get .ensures), eq-eqb _ _ (c .before .before .before .before .before .before .before .before .before .before .before .before .if1 .left), ← (c .before .before .before .before .before .before .before .before .before .before .before .get2 .ensures), eq-eqb _ _ (c .before .before .before .before .before .before .before .before .before .before .if2 .left), ← (c .before .before .before .before .before .before .before .before .before .get3 .ensures), eq-eqb _ _ (c .before .before .before .before .before .before .before .before .if3 .left), ← (c .before .before .before .before .before .before .before .get4 .ensures), eq-eqb _ _ (c .before .before .before .before .before .before .if4 .left), ← (c .before .before .before .before .before .get5 .ensures), eq-eqb _ _ (c .before .before .before .before .if5 .left), ← (c .before .before .before .get6 .ensures), eq-eqb _ _ (c .before .before .if6 .left), ← (c .before .get7 .ensures), ne-eqb _ _ (c .if7 .taken))
-
-get-requires-8 : tie.Need-get-requires-8
-get-requires-8 c κs = search needs
 
 returns-8 : tie.Need-returns-8
 unfolding untouched
@@ -64,19 +40,19 @@ pub is-untouched-spec : {M : Type 1} → statement M
 is-untouched-spec =
     tie.close
     (tie.spec
-    get-requires
+    (λ c κs. search needs)
     returns
-    get-requires-2
+    (λ c κs. search needs)
     returns-2
-    get-requires-3
+    (λ c κs. search needs)
     returns-3
-    get-requires-4
+    (λ c κs. search needs)
     returns-4
-    get-requires-5
+    (λ c κs. search needs)
     returns-5
-    get-requires-6
+    (λ c κs. search needs)
     returns-6
-    get-requires-7
+    (λ c κs. search needs)
     returns-7
-    get-requires-8
+    (λ c κs. search needs)
     returns-8)

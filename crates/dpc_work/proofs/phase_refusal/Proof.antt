@@ -4,25 +4,13 @@ use borrow.Author.Needs.{needs}
 use Rattle.dpc_work.proofs.phase_refusal.Statement.{statement}
 use Rattle.dpc_work.proofs.phase_refusal.Tie as tie
 
-number-of-requires : tie.Need-number-of-requires
-number-of-requires c κs = search needs
-
 returns : tie.Need-returns
 unfolding phaseRefusal
 returns c = simp (← (c .before .number-of .ensures), eq-eqb _ _ (c .if1 .taken))
 
-place-requires : tie.Need-place-requires
-place-requires c κs = search needs
-
-get-in-requires : tie.Need-get-in-requires
-get-in-requires c κs = search needs
-
 returns-2 : tie.Need-returns-2
 unfolding phaseRefusal
 returns-2 c = simp (← (c .before .before .before .before .number-of .ensures), ne-eqb _ _ (c .before .before .before .if1 .left), ← (c .before .before .place .ensures), ← (c .before .get-in .ensures), ne-eqb _ _ (c .if2 .taken))
-
-get-in-requires-2 : tie.Need-get-in-requires-2
-get-in-requires-2 c κs = search needs
 
 returns-3 : tie.Need-returns-3
 unfolding phaseRefusal
@@ -36,11 +24,11 @@ pub phase-refusal-spec : {M : Type 1} → statement M
 phase-refusal-spec =
     tie.close
     (tie.spec
-    number-of-requires
+    (λ c κs. search needs)
     returns
-    place-requires
-    get-in-requires
+    (λ c κs. search needs)
+    (λ c κs. search needs)
     returns-2
-    get-in-requires-2
+    (λ c κs. search needs)
     returns-3
     returns-4)

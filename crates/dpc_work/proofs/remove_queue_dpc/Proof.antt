@@ -5,31 +5,13 @@ use borrow.Author.Needs.{needs}
 use Rattle.dpc_work.proofs.remove_queue_dpc.Statement.{statement}
 use Rattle.dpc_work.proofs.remove_queue_dpc.Tie as tie
 
-number-of-requires : tie.Need-number-of-requires
-number-of-requires c κs = search needs
-
-same-length : tie.Need-same-length
-same-length c = search needs
-
 returns : tie.Need-returns
 unfolding removeRefusal queueRemoved
 returns c = simp (← (c .before .number-of .ensures), eq-eqb _ _ (c .if1 .taken))
 
-is-queued-requires : tie.Need-is-queued-requires
-is-queued-requires c κs = search needs
-
-same-length-2 : tie.Need-same-length-2
-same-length-2 c = search needs
-
 returns-2 : tie.Need-returns-2
 unfolding removeRefusal queueRemoved
 returns-2 c = simp (← (c .before .before .before .before .number-of .ensures), ne-eqb _ _ (c .before .before .before .if1 .left), sym (c .before .is-queued .ensures) ∙ not-true _ (c .if2 .taken)) (cc)
-
-withdraw-requires : tie.Need-withdraw-requires
-withdraw-requires c κs = search needs
-
-same-length-3 : tie.Need-same-length-3
-same-length-3 c = search needs
 
 returns-3 : tie.Need-returns-3
 unfolding removeRefusal queueRemoved
@@ -39,12 +21,12 @@ pub remove-queue-dpc-spec : {M : Type 1} → statement M
 remove-queue-dpc-spec =
     tie.close
     (tie.spec
-    number-of-requires
-    same-length
+    (λ c κs. search needs)
+    (λ c. search needs)
     returns
-    is-queued-requires
-    same-length-2
+    (λ c κs. search needs)
+    (λ c. search needs)
     returns-2
-    withdraw-requires
-    same-length-3
+    (λ c κs. search needs)
+    (λ c. search needs)
     returns-3)

@@ -4,28 +4,13 @@ use borrow.Author.Needs.{needs}
 use Rattle.dpc_work.proofs.start_refusal.Statement.{statement}
 use Rattle.dpc_work.proofs.start_refusal.Tie as tie
 
-get-requires : tie.Need-get-requires
-get-requires c κs = search needs
-
 returns : tie.Need-returns
 unfolding startRefusal
 returns c = simp (← (c .before .get .ensures), ne-eqb _ _ (c .if1 .taken))
 
-queue-chain-requires : tie.Need-queue-chain-requires
-queue-chain-requires c κs = search needs
-
-first-of-requires : tie.Need-first-of-requires
-first-of-requires c κs = search needs
-
 returns-2 : tie.Need-returns-2
 unfolding startRefusal
 returns-2 c = simp (← (c .before .before .before .before .get .ensures), eq-eqb _ _ (c .before .before .before .if1 .left), ← (c .before .before .queue-chain .ensures), ← (c .before .first-of .ensures), eq-eqb _ _ (c .if2 .taken))
-
-place-requires : tie.Need-place-requires
-place-requires c κs = search needs
-
-get-in-requires : tie.Need-get-in-requires
-get-in-requires c κs = search needs
 
 returns-3 : tie.Need-returns-3
 unfolding startRefusal
@@ -39,12 +24,12 @@ pub start-refusal-spec : {M : Type 1} → statement M
 start-refusal-spec =
     tie.close
     (tie.spec
-    get-requires
+    (λ c κs. search needs)
     returns
-    queue-chain-requires
-    first-of-requires
+    (λ c κs. search needs)
+    (λ c κs. search needs)
     returns-2
-    place-requires
-    get-in-requires
+    (λ c κs. search needs)
+    (λ c κs. search needs)
     returns-3
     returns-4)

@@ -4,15 +4,6 @@ use borrow.Author.Needs.{needs}
 use Rattle.dpc_work.proofs.work_refusal.Statement.{statement}
 use Rattle.dpc_work.proofs.work_refusal.Tie as tie
 
-place-requires : tie.Need-place-requires
-place-requires c κs = search needs
-
-get-in-requires : tie.Need-get-in-requires
-get-in-requires c κs = search needs
-
-duplicate-refusal-requires : tie.Need-duplicate-refusal-requires
-duplicate-refusal-requires c κs = search needs
-
 returns : tie.Need-returns
 unfolding workRefusal
 returns c = simp (← (c .before .before .before .place .ensures), ← (c .before .before .get-in .ensures), eq-eqb _ _ (c .before .if1 .taken)) (cc)
@@ -20,9 +11,6 @@ returns c = simp (← (c .before .before .before .place .ensures), ← (c .befor
 returns-2 : tie.Need-returns-2
 unfolding workRefusal
 returns-2 c = simp (← (c .before .before .before .place .ensures), ← (c .before .before .get-in .ensures), ne-eqb _ _ (c .before .if1 .left), ne-eqb _ _ (c .if2 .taken))
-
-get-requires : tie.Need-get-requires
-get-requires c κs = search needs
 
 returns-3 : tie.Need-returns-3
 unfolding workRefusal
@@ -36,11 +24,11 @@ pub work-refusal-spec : {M : Type 1} → statement M
 work-refusal-spec =
     tie.close
     (tie.spec
-    place-requires
-    get-in-requires
-    duplicate-refusal-requires
+    (λ c κs. search needs)
+    (λ c κs. search needs)
+    (λ c κs. search needs)
     returns
     returns-2
-    get-requires
+    (λ c κs. search needs)
     returns-3
     returns-4)

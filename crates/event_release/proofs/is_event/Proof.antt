@@ -3,12 +3,9 @@ use borrow.Author.Needs.{needs}
 use Rattle.event_release.proofs.is_event.Statement.{statement}
 use Rattle.event_release.proofs.is_event.Tie as tie
 
-get-in-requires : tie.Need-get-in-requires
-get-in-requires c κs = search needs
-
 returns : tie.Need-returns
 unfolding isEvent
 returns c = cc
 
 pub is-event-spec : {M : Type 1} → statement M
-is-event-spec = tie.close (tie.spec get-in-requires returns)
+is-event-spec = tie.close (tie.spec (λ c κs. search needs) returns)

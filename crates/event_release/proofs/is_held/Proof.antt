@@ -4,15 +4,6 @@ use borrow.Author.Needs.{needs}
 use Rattle.event_release.proofs.is_held.Statement.{statement}
 use Rattle.event_release.proofs.is_held.Tie as tie
 
-is-event-requires : tie.Need-is-event-requires
-is-event-requires c κs = search needs
-
-get-in-requires : tie.Need-get-in-requires
-get-in-requires c κs = search needs
-
-is-key-held-requires : tie.Need-is-key-held-requires
-is-key-held-requires c κs = search needs
-
 returns : tie.Need-returns
 unfolding isHeld
 returns c = simp (sym (c .before .before .before .is-event .ensures) ∙ c .before .before .if1 .taken) (cc)
@@ -23,4 +14,4 @@ returns-2 c = simp (sym (c .before .is-event .ensures) ∙ c .if1 .left)
 
 pub is-held-spec : {M : Type 1} → statement M
 is-held-spec =
-    tie.close (tie.spec is-event-requires get-in-requires is-key-held-requires returns returns-2)
+    tie.close (tie.spec (λ c κs. search needs) (λ c κs. search needs) (λ c κs. search needs) returns returns-2)

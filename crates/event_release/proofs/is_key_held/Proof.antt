@@ -6,9 +6,6 @@ use borrow.Author.Needs.{needs}
 use Rattle.event_release.proofs.is_key_held.Statement.{statement}
 use Rattle.event_release.proofs.is_key_held.Tie as tie
 
-sub-if1 : tie.Need-sub-if1
-sub-if1 c = search needs
-
 returns : tie.Need-returns
 unfolding keyHeld
 returns c = simp (lt-ltb largest (c .before .before .args .key + c .before .before .args .span) (omega (arith, c .if1 .taken)))
@@ -16,9 +13,6 @@ returns c = simp (lt-ltb largest (c .before .before .args .key + c .before .befo
 returns-2 : tie.Need-returns-2
 unfolding keyHeld
 returns-2 c = simp (le-ltb largest (c .before .before .before .args .key + c .before .before .before .args .span) (omega (arith, c .before .if1 .left)), le-leb _ _ (c .if2 .taken))
-
-add-end : tie.Need-add-end
-add-end c = search needs
 
 returns-3 : tie.Need-returns-3
 unfolding keyHeld
@@ -32,9 +26,6 @@ returns-5 : tie.Need-returns-5
 unfolding keyHeld
 returns-5 c = simp (le-ltb largest (c .before .before .before .before .before .before .args .key + c .before .before .before .before .before .before .args .span) (omega (arith, c .before .before .before .before .if1 .left)), lt-leb _ _ (c .before .before .before .if2 .left), lt-leb _ _ (c .before .before .if3 .left), le-ltb _ _ (c .before .if4 .left), lt-ltb _ _ (c .if5 .taken))
 
-waits-on-requires : tie.Need-waits-on-requires
-waits-on-requires c κs = search needs
-
 returns-6 : tie.Need-returns-6
 unfolding keyHeld
 returns-6 c = simp (le-ltb largest (c .before .before .before .before .before .before .before .args .key + c .before .before .before .before .before .before .before .args .span) (omega (arith, c .before .before .before .before .before .if1 .left)), lt-leb _ _ (c .before .before .before .before .if2 .left), lt-leb _ _ (c .before .before .before .if3 .left), le-ltb _ _ (c .before .before .if4 .left), le-ltb _ _ (c .before .if5 .left)) (cc)
@@ -43,12 +34,12 @@ pub is-key-held-spec : {M : Type 1} → statement M
 is-key-held-spec =
     tie.close
     (tie.spec
-    sub-if1
+    (λ c. search needs)
     returns
     returns-2
-    add-end
+    (λ c. search needs)
     returns-3
     returns-4
     returns-5
-    waits-on-requires
+    (λ c κs. search needs)
     returns-6)

@@ -5,12 +5,6 @@ use borrow.Author.Needs.{needs}
 use Rattle.event_release.proofs.is_retired.Statement.{statement}
 use Rattle.event_release.proofs.is_retired.Tie as tie
 
-is-event-requires : tie.Need-is-event-requires
-is-event-requires c κs = search needs
-
-get-in-requires : tie.Need-get-in-requires
-get-in-requires c κs = search needs
-
 returns : tie.Need-returns
 unfolding isRetired
 returns c = simp (sym (c .before .before .before .is-event .ensures) ∙ c .before .before .if1 .taken, ← (c .before .get-in .ensures), lt-ltb _ _ (c .if2 .taken))
@@ -25,4 +19,4 @@ returns-3 c = simp (sym (c .before .is-event .ensures) ∙ c .if1 .left)
 
 pub is-retired-spec : {M : Type 1} → statement M
 is-retired-spec =
-    tie.close (tie.spec is-event-requires get-in-requires returns returns-2 returns-3)
+    tie.close (tie.spec (λ c κs. search needs) (λ c κs. search needs) returns returns-2 returns-3)

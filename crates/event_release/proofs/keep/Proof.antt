@@ -7,29 +7,11 @@ use borrow.Author.Needs.{needs}
 use Rattle.event_release.proofs.keep.Statement.{statement}
 use Rattle.event_release.proofs.keep.Tie as tie
 
-entry-at-requires : tie.Need-entry-at-requires
-entry-at-requires c κs = search needs
-
-is-retired-requires : tie.Need-is-retired-requires
-is-retired-requires c κs = search needs
-
-same-length : tie.Need-same-length
-same-length c = search needs
-
 returns : tie.Need-returns
 unfolding kept keptTo
 returns c =
     let e : isRetired (now (c .before .before .before .before .before .args .w)) (entryAt (c .before .before .before .before .before .args .base) (c .before .before .before .before .before .args .i)) (c .before .before .before .before .before .args .lo) (c .before .before .before .before .before .args .hi) ≡ true = cc in
     (simp e, simp e)
-
-move-down-requires : tie.Need-move-down-requires
-move-down-requires c κs = search needs
-
-add-result : tie.Need-add-result
-add-result c = search needs
-
-same-length-2 : tie.Need-same-length-2
-same-length-2 c = search needs
 
 returns-2 : tie.Need-returns-2
 unfolding kept keptTo
@@ -41,11 +23,11 @@ pub keep-spec : {M : Type 1} → statement M
 keep-spec =
     tie.close
     (tie.spec
-    entry-at-requires
-    is-retired-requires
-    same-length
+    (λ c κs. search needs)
+    (λ c κs. search needs)
+    (λ c. search needs)
     returns
-    move-down-requires
-    add-result
-    same-length-2
+    (λ c κs. search needs)
+    (λ c. search needs)
+    (λ c. search needs)
     returns-2)

@@ -7,9 +7,6 @@ use borrow.Author.Needs.{needs}
 use Rattle.event_release.proofs.release_refusal.Statement.{statement}
 use Rattle.event_release.proofs.release_refusal.Tie as tie
 
-sub-if1 : tie.Need-sub-if1
-sub-if1 c = search needs
-
 returns : tie.Need-returns
 unfolding releaseRefusal
 returns c = simp (lt-ltb largest (c .before .before .args .base + c .before .before .args .size) (omega (arith, c .if1 .taken)))
@@ -21,12 +18,6 @@ returns-2 c = simp (le-ltb largest (c .before .before .before .args .base + c .b
 returns-3 : tie.Need-returns-3
 unfolding releaseRefusal
 returns-3 c = simp (le-ltb largest (c .before .before .before .before .args .base + c .before .before .before .before .args .size) (omega (arith, c .before .before .if1 .left)), ne-eqb _ _ (c .before .if2 .left), eq-eqb _ _ (c .if3 .taken))
-
-add-any-held : tie.Need-add-any-held
-add-any-held c = search needs
-
-any-held-requires : tie.Need-any-held-requires
-any-held-requires c κs = search needs
 
 returns-4 : tie.Need-returns-4
 unfolding releaseRefusal
@@ -40,11 +31,11 @@ pub release-refusal-spec : {M : Type 1} → statement M
 release-refusal-spec =
     tie.close
     (tie.spec
-    sub-if1
+    (λ c. search needs)
     returns
     returns-2
     returns-3
-    add-any-held
-    any-held-requires
+    (λ c. search needs)
+    (λ c κs. search needs)
     returns-4
     returns-5)

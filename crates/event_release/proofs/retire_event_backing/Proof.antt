@@ -8,24 +8,12 @@ use borrow.Author.Needs.{needs}
 use Rattle.event_release.proofs.retire_event_backing.Statement.{statement}
 use Rattle.event_release.proofs.retire_event_backing.Tie as tie
 
-release-refusal-requires : tie.Need-release-refusal-requires
-release-refusal-requires c κs = search needs
-
-same-length : tie.Need-same-length
-same-length c = search needs
-
 returns : tie.Need-returns
 unfolding eventsRetired
 returns c = simp (← (c .before .release-refusal .ensures), ne-eqb _ _ (c .if1 .taken))
 
 add-retire : tie.Need-add-retire
 add-retire c = omega (arith, release-fits (now (c .before .before .before .before .before .args .w)) (c .before .before .before .before .before .args .base) (c .before .before .before .before .before .args .size) (c .before .before .before .before .before .args .layout) (sym (c .before .before .release-refusal .ensures) ∙ c .before .if1 .left))
-
-retire-requires : tie.Need-retire-requires
-retire-requires c κs = search needs
-
-same-length-2 : tie.Need-same-length-2
-same-length-2 c = search needs
 
 returns-2 : tie.Need-returns-2
 unfolding eventsRetired
@@ -35,10 +23,10 @@ pub retire-event-backing-spec : {M : Type 1} → statement M
 retire-event-backing-spec =
     tie.close
     (tie.spec
-    release-refusal-requires
-    same-length
+    (λ c κs. search needs)
+    (λ c. search needs)
     returns
     add-retire
-    retire-requires
-    same-length-2
+    (λ c κs. search needs)
+    (λ c. search needs)
     returns-2)

@@ -8,19 +8,10 @@ returns : tie.Need-returns
 unfolding stateAt
 returns c = simp (eq-eqb _ _ (c .if1 .taken))
 
-get-in-requires : tie.Need-get-in-requires
-get-in-requires c κs = search needs
-
-get-in-requires-2 : tie.Need-get-in-requires-2
-get-in-requires-2 c κs = search needs
-
-get-in-requires-3 : tie.Need-get-in-requires-3
-get-in-requires-3 c κs = search needs
-
 returns-2 : tie.Need-returns-2
 unfolding stateAt
 returns-2 c = simp (ne-eqb _ _ (c .before .before .before .if1 .left)) (cc)
 
 pub event-at-spec : {M : Type 1} → statement M
 event-at-spec =
-    tie.close (tie.spec returns get-in-requires get-in-requires-2 get-in-requires-3 returns-2)
+    tie.close (tie.spec returns (λ c κs. search needs) (λ c κs. search needs) (λ c κs. search needs) returns-2)

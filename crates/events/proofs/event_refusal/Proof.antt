@@ -5,9 +5,6 @@ use borrow.Author.Needs.{needs}
 use Rattle.events.proofs.event_refusal.Statement.{statement}
 use Rattle.events.proofs.event_refusal.Tie as tie
 
-collision-requires : tie.Need-collision-requires
-collision-requires c κs = search needs
-
 returns : tie.Need-returns
 unfolding eventRefusal
 returns c = simp (sym (c .before .collision .ensures) ∙ c .if1 .taken)
@@ -16,15 +13,9 @@ returns-2 : tie.Need-returns-2
 unfolding eventRefusal
 returns-2 c = simp (sym (c .before .before .collision .ensures) ∙ c .before .if1 .left, eq-eqb _ _ (c .if2 .taken))
 
-is-full-requires : tie.Need-is-full-requires
-is-full-requires c κs = search needs
-
 returns-3 : tie.Need-returns-3
 unfolding eventRefusal
 returns-3 c = simp (sym (c .before .before .before .before .collision .ensures) ∙ c .before .before .before .if1 .left, ne-eqb _ _ (c .before .before .if2 .left), sym (c .before .is-full .ensures) ∙ c .if3 .taken)
-
-waits-on-requires : tie.Need-waits-on-requires
-waits-on-requires c κs = search needs
 
 returns-4 : tie.Need-returns-4
 unfolding eventRefusal
@@ -38,11 +29,11 @@ pub event-refusal-spec : {M : Type 1} → statement M
 event-refusal-spec =
     tie.close
     (tie.spec
-    collision-requires
+    (λ c κs. search needs)
     returns
     returns-2
-    is-full-requires
+    (λ c κs. search needs)
     returns-3
-    waits-on-requires
+    (λ c κs. search needs)
     returns-4
     returns-5)

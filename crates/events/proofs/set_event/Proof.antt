@@ -8,27 +8,9 @@ use borrow.Author.Needs.{needs}
 use Rattle.events.proofs.set_event.Statement.{statement}
 use Rattle.events.proofs.set_event.Tie as tie
 
-place-of-requires : tie.Need-place-of-requires
-place-of-requires c κs = search needs
-
-same-length : tie.Need-same-length
-same-length c = search needs
-
 returns : tie.Need-returns
 unfolding wasSet
 returns c = simp (← (c .before .place-of .ensures), eq-eqb _ _ (c .if1 .taken))
-
-was-signaled-requires : tie.Need-was-signaled-requires
-was-signaled-requires c κs = search needs
-
-put-in-requires : tie.Need-put-in-requires
-put-in-requires c κs = search needs
-
-wake-requires : tie.Need-wake-requires
-wake-requires c κs = search needs
-
-same-length-2 : tie.Need-same-length-2
-same-length-2 c = search needs
 
 returns-2 : tie.Need-returns-2
 unfolding wasSet
@@ -40,11 +22,11 @@ pub set-event-spec : {M : Type 1} → statement M
 set-event-spec =
     tie.close
     (tie.spec
-    place-of-requires
-    same-length
+    (λ c κs. search needs)
+    (λ c. search needs)
     returns
-    was-signaled-requires
-    put-in-requires
-    wake-requires
-    same-length-2
+    (λ c κs. search needs)
+    (λ c κs. search needs)
+    (λ c κs. search needs)
+    (λ c. search needs)
     returns-2)

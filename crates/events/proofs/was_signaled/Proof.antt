@@ -3,12 +3,9 @@ use borrow.Author.Needs.{needs}
 use Rattle.events.proofs.was_signaled.Statement.{statement}
 use Rattle.events.proofs.was_signaled.Tie as tie
 
-get-in-requires : tie.Need-get-in-requires
-get-in-requires c κs = search needs
-
 returns : tie.Need-returns
 unfolding signaledAt
 returns c = cc
 
 pub was-signaled-spec : {M : Type 1} → statement M
-was-signaled-spec = tie.close (tie.spec get-in-requires returns)
+was-signaled-spec = tie.close (tie.spec (λ c κs. search needs) returns)

@@ -9,26 +9,11 @@ use borrow.Author.Needs.{needs}
 use Rattle.expiry_advance.proofs.gather.Statement.{statement}
 use Rattle.expiry_advance.proofs.gather.Tie as tie
 
-objects-base-requires : tie.Need-objects-base-requires
-objects-base-requires c κs = search needs
-
-collect-requires : tie.Need-collect-requires
-collect-requires c κs = search needs
-
-slice-relend-prefix-arrange : tie.Need-slice-relend-prefix-arrange
-slice-relend-prefix-arrange c = search needs
-
 slice-aggregate-arrange : tie.Need-slice-aggregate-arrange
 slice-aggregate-arrange c = sym (length-take-le (c .before .before .before .collect .result) (c .before .before .before .collect .last .1 .1 .0) (c .before .before .before .collect .ensures .2))
 
 arrange-requires : tie.Need-arrange-requires
 arrange-requires c κs = omega (arith, length-take-le (c .before .before .before .before .collect .result) (c .before .before .before .before .collect .last .1 .1 .0) (c .before .before .before .before .collect .ensures .2), c .before .before .before .before .collect .ensures .2, c .before .before .before .before .collect .kept, c .before .before .before .before .before .before .before .before .before .before .pre .1)
-
-same-length : tie.Need-same-length
-same-length c = search needs
-
-same-length-2 : tie.Need-same-length-2
-same-length-2 c = search needs
 
 returns : tie.Need-returns
 unfolding order
@@ -40,11 +25,11 @@ pub gather-spec : {M : Type 1} → statement M
 gather-spec =
     tie.close
     (tie.spec
-    objects-base-requires
-    collect-requires
-    slice-relend-prefix-arrange
+    (λ c κs. search needs)
+    (λ c κs. search needs)
+    (λ c. search needs)
     slice-aggregate-arrange
     arrange-requires
-    same-length
-    same-length-2
+    (λ c. search needs)
+    (λ c. search needs)
     returns)

@@ -4,21 +4,9 @@ use borrow.Author.Needs.{needs}
 use Rattle.expiry_advance.proofs.run.Statement.{statement}
 use Rattle.expiry_advance.proofs.run.Tie as tie
 
-list-refusal-requires : tie.Need-list-refusal-requires
-list-refusal-requires c κs = search needs
-
-same-length : tie.Need-same-length
-same-length c = search needs
-
 returns : tie.Need-returns
 unfolding ran
 returns c = simp (← (c .before .list-refusal .ensures), ne-eqb _ _ (c .if1 .taken)) (search needs)
-
-expire-list-requires : tie.Need-expire-list-requires
-expire-list-requires c κs = search needs
-
-same-length-2 : tie.Need-same-length-2
-same-length-2 c = search needs
 
 returns-2 : tie.Need-returns-2
 unfolding ran
@@ -28,9 +16,9 @@ pub run-spec : {M : Type 1} → statement M
 run-spec =
     tie.close
     (tie.spec
-    list-refusal-requires
-    same-length
+    (λ c κs. search needs)
+    (λ c. search needs)
     returns
-    expire-list-requires
-    same-length-2
+    (λ c κs. search needs)
+    (λ c. search needs)
     returns-2)

@@ -5,21 +5,12 @@ use borrow.Author.Needs.{needs}
 use Rattle.expiry_advance.proofs.run_front.Statement.{statement}
 use Rattle.expiry_advance.proofs.run_front.Tie as tie
 
-objects-base-requires : tie.Need-objects-base-requires
-objects-base-requires c κs = search needs
-
 slice-aggregate-run : tie.Need-slice-aggregate-run
 slice-aggregate-run c = sym (length-take-le (c .before .before .before .before .before .before .args .n) (now (c .before .before .before .before .before .before .args .list)) (c .before .before .before .before .before .before .pre))
-
-run-requires : tie.Need-run-requires
-run-requires c κs = search needs
-
-same-length : tie.Need-same-length
-same-length c = search needs
 
 returns : tie.Need-returns
 returns c = (cc, cc)
 
 pub run-front-spec : {M : Type 1} → statement M
 run-front-spec =
-    tie.close (tie.spec objects-base-requires slice-aggregate-run run-requires same-length returns)
+    tie.close (tie.spec (λ c κs. search needs) slice-aggregate-run (λ c κs. search needs) (λ c. search needs) returns)

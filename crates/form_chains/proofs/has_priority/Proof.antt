@@ -8,15 +8,9 @@ returns : tie.Need-returns
 unfolding hasPriority
 returns c = simp (eq-eqb _ _ (c .if1 .taken))
 
-thread-at-requires : tie.Need-thread-at-requires
-thread-at-requires c κs = search needs
-
-get-in-requires : tie.Need-get-in-requires
-get-in-requires c κs = search needs
-
 returns-2 : tie.Need-returns-2
 unfolding hasPriority
 returns-2 c = simp (ne-eqb _ _ (c .before .before .if1 .left)) (cc)
 
 pub has-priority-spec : {M : Type 1} → statement M
-has-priority-spec = tie.close (tie.spec returns thread-at-requires get-in-requires returns-2)
+has-priority-spec = tie.close (tie.spec returns (λ c κs. search needs) (λ c κs. search needs) returns-2)

@@ -4,18 +4,9 @@ use borrow.Author.Needs.{needs}
 use Rattle.form_chains.proofs.sequence_at.Statement.{statement}
 use Rattle.form_chains.proofs.sequence_at.Tie as tie
 
-get-requires : tie.Need-get-requires
-get-requires c κs = search needs
-
 returns : tie.Need-returns
 unfolding sequenceAt
 returns c = simp (eq-eqb _ _ (c .before .if1 .taken)) (cc)
-
-thread-at-requires : tie.Need-thread-at-requires
-thread-at-requires c κs = search needs
-
-get-in-requires : tie.Need-get-in-requires
-get-in-requires c κs = search needs
 
 returns-2 : tie.Need-returns-2
 unfolding sequenceAt
@@ -23,4 +14,4 @@ returns-2 c = simp (ne-eqb _ _ (c .before .before .if1 .left)) (cc)
 
 pub sequence-at-spec : {M : Type 1} → statement M
 sequence-at-spec =
-    tie.close (tie.spec get-requires returns thread-at-requires get-in-requires returns-2)
+    tie.close (tie.spec (λ c κs. search needs) returns (λ c κs. search needs) (λ c κs. search needs) returns-2)

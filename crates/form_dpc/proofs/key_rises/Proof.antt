@@ -8,19 +8,10 @@ returns : tie.Need-returns
 unfolding keyRises
 returns c = simp (eq-eqb _ _ (c .if1 .taken))
 
-sub-key-at : tie.Need-sub-key-at
-sub-key-at c = search needs
-
-key-at-requires : tie.Need-key-at-requires
-key-at-requires c κs = search needs
-
-key-at-requires-2 : tie.Need-key-at-requires-2
-key-at-requires-2 c κs = search needs
-
 returns-2 : tie.Need-returns-2
 unfolding keyRises
 returns-2 c = simp (ne-eqb _ _ (c .before .before .if1 .left)) (cc)
 
 pub key-rises-spec : {M : Type 1} → statement M
 key-rises-spec =
-    tie.close (tie.spec returns sub-key-at key-at-requires key-at-requires-2 returns-2)
+    tie.close (tie.spec returns (λ c. search needs) (λ c κs. search needs) (λ c κs. search needs) returns-2)

@@ -5,59 +5,17 @@ use borrow.Author.Needs.{needs}
 use Rattle.form_dpc.proofs.location_passes.Statement.{statement}
 use Rattle.form_dpc.proofs.location_passes.Tie as tie
 
-get-in-requires : tie.Need-get-in-requires
-get-in-requires c κs = search needs
-
 returns : tie.Need-returns
 unfolding located
 returns c = simp (← (c .before .get-in .ensures), lt-ltb _ _ (c .if1 .taken))
-
-add-get-in : tie.Need-add-get-in
-add-get-in c = search needs
-
-get-in-requires-2 : tie.Need-get-in-requires-2
-get-in-requires-2 c κs = search needs
 
 returns-2 : tie.Need-returns-2
 unfolding located
 returns-2 c = simp (← (c .before .before .before .get-in .ensures), le-ltb _ _ (c .before .before .if1 .left), ← (c .before .get-in2 .ensures), lt-ltb _ _ (c .if2 .taken))
 
-add-get-in-2 : tie.Need-add-get-in-2
-add-get-in-2 c = search needs
-
-get-in-requires-3 : tie.Need-get-in-requires-3
-get-in-requires-3 c κs = search needs
-
-add-get-in-3 : tie.Need-add-get-in-3
-add-get-in-3 c = search needs
-
-get-in-requires-4 : tie.Need-get-in-requires-4
-get-in-requires-4 c κs = search needs
-
-add-get-in-4 : tie.Need-add-get-in-4
-add-get-in-4 c = search needs
-
-get-in-requires-5 : tie.Need-get-in-requires-5
-get-in-requires-5 c κs = search needs
-
-mapped-passes-requires : tie.Need-mapped-passes-requires
-mapped-passes-requires c κs = search needs
-
 returns-3 : tie.Need-returns-3
 unfolding located
 returns-3 c = simp (← (c .before .before .before .before .before .before .before .before .get-in .ensures), le-ltb _ _ (c .before .before .before .before .before .before .before .if1 .left), ← (c .before .before .before .before .before .before .get-in2 .ensures), le-ltb _ _ (c .before .before .before .before .before .if2 .left), ← (c .before .before .get-in5 .ensures), sym (c .before .mapped-passes .ensures) ∙ not-true _ (c .if3 .taken))
-
-backing-of-requires : tie.Need-backing-of-requires
-backing-of-requires c κs = search needs
-
-get-requires : tie.Need-get-requires
-get-requires c κs = search needs
-
-architecture-of-requires : tie.Need-architecture-of-requires
-architecture-of-requires c κs = search needs
-
-location-refusal-requires : tie.Need-location-refusal-requires
-location-refusal-requires c κs = search needs
 
 returns-4 : tie.Need-returns-4
 unfolding located
@@ -67,21 +25,21 @@ pub location-passes-spec : {M : Type 1} → statement M
 location-passes-spec =
     tie.close
     (tie.spec
-    get-in-requires
+    (λ c κs. search needs)
     returns
-    add-get-in
-    get-in-requires-2
+    (λ c. search needs)
+    (λ c κs. search needs)
     returns-2
-    add-get-in-2
-    get-in-requires-3
-    add-get-in-3
-    get-in-requires-4
-    add-get-in-4
-    get-in-requires-5
-    mapped-passes-requires
+    (λ c. search needs)
+    (λ c κs. search needs)
+    (λ c. search needs)
+    (λ c κs. search needs)
+    (λ c. search needs)
+    (λ c κs. search needs)
+    (λ c κs. search needs)
     returns-3
-    backing-of-requires
-    get-requires
-    architecture-of-requires
-    location-refusal-requires
+    (λ c κs. search needs)
+    (λ c κs. search needs)
+    (λ c κs. search needs)
+    (λ c κs. search needs)
     returns-4)

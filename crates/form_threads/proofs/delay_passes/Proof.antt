@@ -5,25 +5,13 @@ use borrow.Author.Needs.{needs}
 use Rattle.form_threads.proofs.delay_passes.Statement.{statement}
 use Rattle.form_threads.proofs.delay_passes.Tie as tie
 
-has-state-requires : tie.Need-has-state-requires
-has-state-requires c κs = search needs
-
 returns : tie.Need-returns
 unfolding delayPasses
 returns c = simp (sym (c .before .has-state .ensures) ∙ not-true _ (c .if1 .taken))
 
-count-of-requires : tie.Need-count-of-requires
-count-of-requires c κs = search needs
-
 returns-2 : tie.Need-returns-2
 unfolding delayPasses
 returns-2 c = simp (sym (c .before .before .before .has-state .ensures) ∙ not-false _ (c .before .before .if1 .left), ← (c .before .count-of .ensures), ne-eqb _ _ (c .if2 .taken))
-
-thread-at-requires : tie.Need-thread-at-requires
-thread-at-requires c κs = search needs
-
-get-in-requires : tie.Need-get-in-requires
-get-in-requires c κs = search needs
 
 returns-3 : tie.Need-returns-3
 unfolding delayPasses
@@ -33,10 +21,10 @@ pub delay-passes-spec : {M : Type 1} → statement M
 delay-passes-spec =
     tie.close
     (tie.spec
-    has-state-requires
+    (λ c κs. search needs)
     returns
-    count-of-requires
+    (λ c κs. search needs)
     returns-2
-    thread-at-requires
-    get-in-requires
+    (λ c κs. search needs)
+    (λ c κs. search needs)
     returns-3)

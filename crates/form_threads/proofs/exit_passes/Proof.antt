@@ -4,18 +4,9 @@ use borrow.Author.Needs.{needs}
 use Rattle.form_threads.proofs.exit_passes.Statement.{statement}
 use Rattle.form_threads.proofs.exit_passes.Tie as tie
 
-has-state-requires : tie.Need-has-state-requires
-has-state-requires c κs = search needs
-
 returns : tie.Need-returns
 unfolding exitPasses
 returns c = simp (sym (c .before .has-state .ensures) ∙ c .if1 .taken)
-
-thread-at-requires : tie.Need-thread-at-requires
-thread-at-requires c κs = search needs
-
-get-in-requires : tie.Need-get-in-requires
-get-in-requires c κs = search needs
 
 returns-2 : tie.Need-returns-2
 unfolding exitPasses
@@ -23,4 +14,4 @@ returns-2 c = simp (sym (c .before .before .before .has-state .ensures) ∙ c .b
 
 pub exit-passes-spec : {M : Type 1} → statement M
 exit-passes-spec =
-    tie.close (tie.spec has-state-requires returns thread-at-requires get-in-requires returns-2)
+    tie.close (tie.spec (λ c κs. search needs) returns (λ c κs. search needs) (λ c κs. search needs) returns-2)

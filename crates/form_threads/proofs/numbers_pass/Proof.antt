@@ -5,29 +5,17 @@ use borrow.Author.Needs.{needs}
 use Rattle.form_threads.proofs.numbers_pass.Statement.{statement}
 use Rattle.form_threads.proofs.numbers_pass.Tie as tie
 
-record-passes-requires : tie.Need-record-passes-requires
-record-passes-requires c κs = search needs
-
 returns : tie.Need-returns
 unfolding threadNumbers
 returns c = simp (sym (c .before .record-passes .ensures) ∙ not-true _ (c .if1 .taken))
-
-exit-passes-requires : tie.Need-exit-passes-requires
-exit-passes-requires c κs = search needs
 
 returns-2 : tie.Need-returns-2
 unfolding threadNumbers
 returns-2 c = simp (sym (c .before .before .before .record-passes .ensures) ∙ not-false _ (c .before .before .if1 .left), sym (c .before .exit-passes .ensures) ∙ not-true _ (c .if2 .taken))
 
-wait-passes-requires : tie.Need-wait-passes-requires
-wait-passes-requires c κs = search needs
-
 returns-3 : tie.Need-returns-3
 unfolding threadNumbers
 returns-3 c = simp (sym (c .before .before .before .before .before .record-passes .ensures) ∙ not-false _ (c .before .before .before .before .if1 .left), sym (c .before .before .before .exit-passes .ensures) ∙ not-false _ (c .before .before .if2 .left), sym (c .before .wait-passes .ensures) ∙ not-true _ (c .if3 .taken))
-
-delay-passes-requires : tie.Need-delay-passes-requires
-delay-passes-requires c κs = search needs
 
 returns-4 : tie.Need-returns-4
 unfolding threadNumbers
@@ -37,11 +25,11 @@ pub numbers-pass-spec : {M : Type 1} → statement M
 numbers-pass-spec =
     tie.close
     (tie.spec
-    record-passes-requires
+    (λ c κs. search needs)
     returns
-    exit-passes-requires
+    (λ c κs. search needs)
     returns-2
-    wait-passes-requires
+    (λ c κs. search needs)
     returns-3
-    delay-passes-requires
+    (λ c κs. search needs)
     returns-4)

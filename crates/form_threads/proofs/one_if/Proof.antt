@@ -4,9 +4,6 @@ use borrow.Author.Needs.{needs}
 use Rattle.form_threads.proofs.one_if.Statement.{statement}
 use Rattle.form_threads.proofs.one_if.Tie as tie
 
-has-state-requires : tie.Need-has-state-requires
-has-state-requires c κs = search needs
-
 returns : tie.Need-returns
 unfolding oneIf
 returns c = simp (sym (c .before .has-state .ensures) ∙ c .if1 .taken)
@@ -16,4 +13,4 @@ unfolding oneIf
 returns-2 c = simp (sym (c .before .has-state .ensures) ∙ c .if1 .left)
 
 pub one-if-spec : {M : Type 1} → statement M
-one-if-spec = tie.close (tie.spec has-state-requires returns returns-2)
+one-if-spec = tie.close (tie.spec (λ c κs. search needs) returns returns-2)

@@ -5,18 +5,9 @@ use borrow.Author.Needs.{needs}
 use Rattle.form_threads.proofs.record_passes.Statement.{statement}
 use Rattle.form_threads.proofs.record_passes.Tie as tie
 
-read-thread-requires : tie.Need-read-thread-requires
-read-thread-requires c κs = search needs
-
-is-bad-priority-requires : tie.Need-is-bad-priority-requires
-is-bad-priority-requires c κs = search needs
-
 returns : tie.Need-returns
 unfolding recordPasses
 returns c = simp (← (c .before .before .read-thread .ensures), sym (c .before .is-bad-priority .ensures) ∙ c .if1 .taken)
-
-is-bad-state-requires : tie.Need-is-bad-state-requires
-is-bad-state-requires c κs = search needs
 
 returns-2 : tie.Need-returns-2
 unfolding recordPasses
@@ -34,10 +25,10 @@ pub record-passes-spec : {M : Type 1} → statement M
 record-passes-spec =
     tie.close
     (tie.spec
-    read-thread-requires
-    is-bad-priority-requires
+    (λ c κs. search needs)
+    (λ c κs. search needs)
     returns
-    is-bad-state-requires
+    (λ c κs. search needs)
     returns-2
     returns-3
     returns-4)

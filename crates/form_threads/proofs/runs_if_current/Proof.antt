@@ -4,18 +4,9 @@ use borrow.Author.Needs.{needs}
 use Rattle.form_threads.proofs.runs_if_current.Statement.{statement}
 use Rattle.form_threads.proofs.runs_if_current.Tie as tie
 
-get-requires : tie.Need-get-requires
-get-requires c κs = search needs
-
-has-state-requires : tie.Need-has-state-requires
-has-state-requires c κs = search needs
-
 returns : tie.Need-returns
 unfolding runsIfCurrent
 returns c = simp (← (c .before .before .get .ensures), eq-eqb _ _ (c .before .if1 .taken)) (cc)
-
-has-state-requires-2 : tie.Need-has-state-requires-2
-has-state-requires-2 c κs = search needs
 
 returns-2 : tie.Need-returns-2
 unfolding runsIfCurrent
@@ -23,4 +14,4 @@ returns-2 c = simp (← (c .before .before .get .ensures), ne-eqb _ _ (c .before
 
 pub runs-if-current-spec : {M : Type 1} → statement M
 runs-if-current-spec =
-    tie.close (tie.spec get-requires has-state-requires returns has-state-requires-2 returns-2)
+    tie.close (tie.spec (λ c κs. search needs) (λ c κs. search needs) returns (λ c κs. search needs) returns-2)

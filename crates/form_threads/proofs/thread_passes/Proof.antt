@@ -5,29 +5,17 @@ use borrow.Author.Needs.{needs}
 use Rattle.form_threads.proofs.thread_passes.Statement.{statement}
 use Rattle.form_threads.proofs.thread_passes.Tie as tie
 
-numbers-pass-requires : tie.Need-numbers-pass-requires
-numbers-pass-requires c κs = search needs
-
 returns : tie.Need-returns
 unfolding threadPasses
 returns c = simp (sym (c .before .numbers-pass .ensures) ∙ not-true _ (c .if1 .taken))
-
-runs-if-current-requires : tie.Need-runs-if-current-requires
-runs-if-current-requires c κs = search needs
 
 returns-2 : tie.Need-returns-2
 unfolding threadPasses
 returns-2 c = simp (sym (c .before .before .before .numbers-pass .ensures) ∙ not-false _ (c .before .before .if1 .left), sym (c .before .runs-if-current .ensures) ∙ not-true _ (c .if2 .taken))
 
-waits-for-known-requires : tie.Need-waits-for-known-requires
-waits-for-known-requires c κs = search needs
-
 returns-3 : tie.Need-returns-3
 unfolding threadPasses
 returns-3 c = simp (sym (c .before .before .before .before .before .numbers-pass .ensures) ∙ not-false _ (c .before .before .before .before .if1 .left), sym (c .before .before .before .runs-if-current .ensures) ∙ not-false _ (c .before .before .if2 .left), sym (c .before .waits-for-known .ensures) ∙ not-true _ (c .if3 .taken))
-
-waits-for-each-once-requires : tie.Need-waits-for-each-once-requires
-waits-for-each-once-requires c κs = search needs
 
 returns-4 : tie.Need-returns-4
 unfolding threadPasses
@@ -37,11 +25,11 @@ pub thread-passes-spec : {M : Type 1} → statement M
 thread-passes-spec =
     tie.close
     (tie.spec
-    numbers-pass-requires
+    (λ c κs. search needs)
     returns
-    runs-if-current-requires
+    (λ c κs. search needs)
     returns-2
-    waits-for-known-requires
+    (λ c κs. search needs)
     returns-3
-    waits-for-each-once-requires
+    (λ c κs. search needs)
     returns-4)

@@ -7,35 +7,17 @@ use borrow.Author.Needs.{needs}
 use Rattle.form_threads.proofs.wait_passes.Statement.{statement}
 use Rattle.form_threads.proofs.wait_passes.Tie as tie
 
-thread-at-requires : tie.Need-thread-at-requires
-thread-at-requires c κs = search needs
-
-get-in-requires : tie.Need-get-in-requires
-get-in-requires c κs = search needs
-
 returns : tie.Need-returns
 unfolding waitPasses
 returns c = simp (← (c .before .before .thread-at .ensures), ← (c .before .get-in .ensures), lt-ltb _ _ (c .if1 .taken))
-
-get-in-requires-2 : tie.Need-get-in-requires-2
-get-in-requires-2 c κs = search needs
 
 returns-2 : tie.Need-returns-2
 unfolding waitPasses
 returns-2 c = simp (← (c .before .before .before .before .thread-at .ensures), ← (c .before .before .before .get-in .ensures), ← (c .before .get-in2 .ensures), le-ltb _ _ (c .before .before .if1 .left), lt-ltb _ _ (c .if2 .taken))
 
-get-in-requires-3 : tie.Need-get-in-requires-3
-get-in-requires-3 c κs = search needs
-
 returns-3 : tie.Need-returns-3
 unfolding waitPasses
 returns-3 c = simp (← (c .before .before .before .before .before .before .thread-at .ensures), ← (c .before .before .before .before .before .get-in .ensures), ← (c .before .before .before .get-in2 .ensures), ← (c .before .get-in3 .ensures), le-ltb _ _ (c .before .before .before .before .if1 .left), le-ltb _ _ (c .before .before .if2 .left), lt-ltb _ _ (c .if3 .taken))
-
-places-at-requires : tie.Need-places-at-requires
-places-at-requires c κs = search needs
-
-count-of-requires : tie.Need-count-of-requires
-count-of-requires c κs = search needs
 
 has-bad-kind-requires : tie.Need-has-bad-kind-requires
 has-bad-kind-requires c κs = omega (arith, count-most (now (c .before .before .before .before .before .before .before .before .before .before .args .w)) (c .before .before .before .before .before .before .before .before .before .before .args .id), c .count-of .ensures)
@@ -48,14 +30,14 @@ pub wait-passes-spec : {M : Type 1} → statement M
 wait-passes-spec =
     tie.close
     (tie.spec
-    thread-at-requires
-    get-in-requires
+    (λ c κs. search needs)
+    (λ c κs. search needs)
     returns
-    get-in-requires-2
+    (λ c κs. search needs)
     returns-2
-    get-in-requires-3
+    (λ c κs. search needs)
     returns-3
-    places-at-requires
-    count-of-requires
+    (λ c κs. search needs)
+    (λ c κs. search needs)
     has-bad-kind-requires
     returns-4)

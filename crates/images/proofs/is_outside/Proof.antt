@@ -9,25 +9,13 @@ use borrow.Author.Needs.{needs}
 use Rattle.images.proofs.is_outside.Statement.{statement}
 use Rattle.images.proofs.is_outside.Tie as tie
 
-backing-base-requires : tie.Need-backing-base-requires
-backing-base-requires c κs = search needs
-
-backing-size-requires : tie.Need-backing-size-requires
-backing-size-requires c κs = search needs
-
 returns : tie.Need-returns
 unfolding isOutside
 returns c = simp (← (c .before .before .backing-base .ensures), lt-ltb _ _ (c .if1 .taken))
 
-sub-if2 : tie.Need-sub-if2
-sub-if2 c = search needs
-
 returns-2 : tie.Need-returns-2
 unfolding isOutside
 returns-2 c = simp (← (c .before .before .before .backing-base .ensures), ← (c .before .before .backing-size .ensures), le-ltb _ _ (c .before .if1 .left), le-leb (2 ^ 64) (c .before .before .before .backing-base .result + c .before .before .backing-size .result) (omega arith))
-
-add-result : tie.Need-add-result
-add-result c = search needs
 
 returns-3 : tie.Need-returns-3
 unfolding isOutside
@@ -37,10 +25,10 @@ pub is-outside-spec : {M : Type 1} → statement M
 is-outside-spec =
     tie.close
     (tie.spec
-    backing-base-requires
-    backing-size-requires
+    (λ c κs. search needs)
+    (λ c κs. search needs)
     returns
-    sub-if2
+    (λ c. search needs)
     returns-2
-    add-result
+    (λ c. search needs)
     returns-3)

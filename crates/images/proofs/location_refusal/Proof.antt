@@ -12,22 +12,13 @@ returns : tie.Need-returns
 unfolding locationRefusal
 returns c = simp (eq-eqb _ _ (c .if1 .taken))
 
-sub-if2 : tie.Need-sub-if2
-sub-if2 c = search needs
-
 returns-2 : tie.Need-returns-2
 unfolding locationRefusal
 returns-2 c = simp (ne-eqb _ _ (c .before .if1 .left), le-leb (2 ^ 64) (c .before .before .args .address + c .before .before .args .size) (omega arith))
 
-is-short-requires : tie.Need-is-short-requires
-is-short-requires c κs = search needs
-
 returns-3 : tie.Need-returns-3
 unfolding locationRefusal
 returns-3 c = simp (ne-eqb _ _ (c .before .before .before .if1 .left), lt-leb (2 ^ 64) (c .before .before .before .before .args .address + c .before .before .before .before .args .size) (omega arith), sym (c .before .is-short .ensures) ∙ c .if3 .taken)
-
-width-requires : tie.Need-width-requires
-width-requires c κs = search needs
 
 rem-if4 : tie.Need-rem-if4
 rem-if4 c = omega (arith, c .width .ensures, width-some (c .before .before .before .before .before .args .a))
@@ -36,18 +27,9 @@ returns-4 : tie.Need-returns-4
 unfolding locationRefusal
 returns-4 c = simp (ne-eqb _ _ (c .before .before .before .before .before .if1 .left), lt-leb (2 ^ 64) (c .before .before .before .before .before .before .args .address + c .before .before .before .before .before .before .args .size) (omega arith), sym (c .before .before .before .is-short .ensures) ∙ c .before .before .if3 .left, ← (c .before .width .ensures), ne-eqb _ _ (c .if4 .taken))
 
-add-end : tie.Need-add-end
-add-end c = search needs
-
-ends-past-requires : tie.Need-ends-past-requires
-ends-past-requires c κs = search needs
-
 returns-5 : tie.Need-returns-5
 unfolding locationRefusal
 returns-5 c = simp (ne-eqb _ _ (c .before .before .before .before .before .before .before .if1 .left), lt-leb (2 ^ 64) (c .before .before .before .before .before .before .before .before .args .address + c .before .before .before .before .before .before .before .before .args .size) (omega arith), sym (c .before .before .before .before .before .is-short .ensures) ∙ c .before .before .before .before .if3 .left, ← (c .before .before .before .width .ensures), eq-eqb _ _ (c .before .before .if4 .left), sym (c .before .ends-past .ensures) ∙ c .if5 .taken)
-
-is-outside-requires : tie.Need-is-outside-requires
-is-outside-requires c κs = search needs
 
 returns-6 : tie.Need-returns-6
 unfolding locationRefusal
@@ -62,16 +44,16 @@ location-refusal-spec =
     tie.close
     (tie.spec
     returns
-    sub-if2
+    (λ c. search needs)
     returns-2
-    is-short-requires
+    (λ c κs. search needs)
     returns-3
-    width-requires
+    (λ c κs. search needs)
     rem-if4
     returns-4
-    add-end
-    ends-past-requires
+    (λ c. search needs)
+    (λ c κs. search needs)
     returns-5
-    is-outside-requires
+    (λ c κs. search needs)
     returns-6
     returns-7)

@@ -9,23 +9,8 @@ use borrow.Author.Needs.{needs}
 use Rattle.images.proofs.put_timer_links.Statement.{statement}
 use Rattle.images.proofs.put_timer_links.Tie as tie
 
-width-requires : tie.Need-width-requires
-width-requires c κs = search needs
-
-wrapping-add-u64-requires : tie.Need-wrapping-add-u64-requires
-wrapping-add-u64-requires c κs = search needs
-
-put-number-requires : tie.Need-put-number-requires
-put-number-requires c κs = search needs
-
 add-put-number : tie.Need-add-put-number
 add-put-number c = omega (arith, c .before .before .before .before .before .before .width .ensures, shape (c .before .before .before .before .before .before .before .before .args .t .architecture) .narrow)
-
-put-number-requires-2 : tie.Need-put-number-requires-2
-put-number-requires-2 c κs = search needs
-
-same-length : tie.Need-same-length
-same-length c = search needs
 
 returns : tie.Need-returns
 unfolding laid timerLinks
@@ -35,10 +20,10 @@ pub put-timer-links-spec : {M : Type 1} → statement M
 put-timer-links-spec =
     tie.close
     (tie.spec
-    width-requires
-    wrapping-add-u64-requires
-    put-number-requires
+    (λ c κs. search needs)
+    (λ c κs. search needs)
+    (λ c κs. search needs)
     add-put-number
-    put-number-requires-2
-    same-length
+    (λ c κs. search needs)
+    (λ c. search needs)
     returns)

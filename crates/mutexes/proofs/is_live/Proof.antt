@@ -4,12 +4,6 @@ use borrow.Author.Needs.{needs}
 use Rattle.mutexes.proofs.is_live.Statement.{statement}
 use Rattle.mutexes.proofs.is_live.Tie as tie
 
-is-known-requires : tie.Need-is-known-requires
-is-known-requires c κs = search needs
-
-is-exited-requires : tie.Need-is-exited-requires
-is-exited-requires c κs = search needs
-
 returns : tie.Need-returns
 unfolding live
 returns c = simp (sym (c .before .before .is-known .ensures) ∙ c .before .if1 .taken) (cc)
@@ -19,4 +13,4 @@ unfolding live
 returns-2 c = simp (sym (c .before .is-known .ensures) ∙ c .if1 .left)
 
 pub is-live-spec : {M : Type 1} → statement M
-is-live-spec = tie.close (tie.spec is-known-requires is-exited-requires returns returns-2)
+is-live-spec = tie.close (tie.spec (λ c κs. search needs) (λ c κs. search needs) returns returns-2)

@@ -4,18 +4,9 @@ use borrow.Author.Needs.{needs}
 use Rattle.mutexes.proofs.known_refusal.Statement.{statement}
 use Rattle.mutexes.proofs.known_refusal.Tie as tie
 
-place-of-requires : tie.Need-place-of-requires
-place-of-requires c κs = search needs
-
-mutex-refusal-requires : tie.Need-mutex-refusal-requires
-mutex-refusal-requires c κs = search needs
-
 returns : tie.Need-returns
 unfolding knownRefusal
 returns c = simp (← (c .before .before .place-of .ensures), eq-eqb _ _ (c .before .if1 .taken)) (cc)
-
-owner-of-requires : tie.Need-owner-of-requires
-owner-of-requires c κs = search needs
 
 returns-2 : tie.Need-returns-2
 unfolding knownRefusal
@@ -29,9 +20,9 @@ pub known-refusal-spec : {M : Type 1} → statement M
 known-refusal-spec =
     tie.close
     (tie.spec
-    place-of-requires
-    mutex-refusal-requires
+    (λ c κs. search needs)
+    (λ c κs. search needs)
     returns
-    owner-of-requires
+    (λ c κs. search needs)
     returns-2
     returns-3)

@@ -4,15 +4,9 @@ use borrow.Author.Needs.{needs}
 use Rattle.mutexes.proofs.mutex_owner.Statement.{statement}
 use Rattle.mutexes.proofs.mutex_owner.Tie as tie
 
-place-of-requires : tie.Need-place-of-requires
-place-of-requires c κs = search needs
-
 returns : tie.Need-returns
 unfolding ownerAnswer
 returns c = simp (← (c .before .place-of .ensures), eq-eqb _ _ (c .if1 .taken))
-
-owner-of-requires : tie.Need-owner-of-requires
-owner-of-requires c κs = search needs
 
 returns-2 : tie.Need-returns-2
 unfolding ownerAnswer
@@ -24,4 +18,4 @@ returns-3 c = simp (← (c .before .before .before .place-of .ensures), ne-eqb _
 
 pub mutex-owner-spec : {M : Type 1} → statement M
 mutex-owner-spec =
-    tie.close (tie.spec place-of-requires returns owner-of-requires returns-2 returns-3)
+    tie.close (tie.spec (λ c κs. search needs) returns (λ c κs. search needs) returns-2 returns-3)

@@ -5,9 +5,6 @@ use borrow.Author.Needs.{needs}
 use Rattle.mutexes.proofs.mutex_refusal.Statement.{statement}
 use Rattle.mutexes.proofs.mutex_refusal.Tie as tie
 
-collision-requires : tie.Need-collision-requires
-collision-requires c κs = search needs
-
 returns : tie.Need-returns
 unfolding mutexRefusal
 returns c = simp (sym (c .before .collision .ensures) ∙ c .if1 .taken)
@@ -16,22 +13,13 @@ returns-2 : tie.Need-returns-2
 unfolding mutexRefusal
 returns-2 c = simp (sym (c .before .before .collision .ensures) ∙ c .before .if1 .left, eq-eqb _ _ (c .if2 .taken))
 
-is-full-requires : tie.Need-is-full-requires
-is-full-requires c κs = search needs
-
 returns-3 : tie.Need-returns-3
 unfolding mutexRefusal
 returns-3 c = simp (sym (c .before .before .before .before .collision .ensures) ∙ c .before .before .before .if1 .left, ne-eqb _ _ (c .before .before .if2 .left), sym (c .before .is-full .ensures) ∙ c .if3 .taken)
 
-owner-of-requires : tie.Need-owner-of-requires
-owner-of-requires c κs = search needs
-
 returns-4 : tie.Need-returns-4
 unfolding mutexRefusal
 returns-4 c = simp (sym (c .before .before .before .before .before .before .collision .ensures) ∙ c .before .before .before .before .before .if1 .left, ne-eqb _ _ (c .before .before .before .before .if2 .left), sym (c .before .before .before .is-full .ensures) ∙ c .before .before .if3 .left, ← (c .before .owner-of .ensures), ne-eqb _ _ (c .if4 .taken))
-
-waits-on-requires : tie.Need-waits-on-requires
-waits-on-requires c κs = search needs
 
 returns-5 : tie.Need-returns-5
 unfolding mutexRefusal
@@ -45,13 +33,13 @@ pub mutex-refusal-spec : {M : Type 1} → statement M
 mutex-refusal-spec =
     tie.close
     (tie.spec
-    collision-requires
+    (λ c κs. search needs)
     returns
     returns-2
-    is-full-requires
+    (λ c κs. search needs)
     returns-3
-    owner-of-requires
+    (λ c κs. search needs)
     returns-4
-    waits-on-requires
+    (λ c κs. search needs)
     returns-5
     returns-6)

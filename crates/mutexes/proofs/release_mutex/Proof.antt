@@ -4,24 +4,9 @@ use borrow.Author.Needs.{needs}
 use Rattle.mutexes.proofs.release_mutex.Statement.{statement}
 use Rattle.mutexes.proofs.release_mutex.Tie as tie
 
-release-refusal-requires : tie.Need-release-refusal-requires
-release-refusal-requires c κs = search needs
-
-same-length : tie.Need-same-length
-same-length c = search needs
-
 returns : tie.Need-returns
 unfolding released
 returns c = simp (← (c .before .release-refusal .ensures), ne-eqb _ _ (c .if1 .taken))
-
-free-requires : tie.Need-free-requires
-free-requires c κs = search needs
-
-wake-requires : tie.Need-wake-requires
-wake-requires c κs = search needs
-
-same-length-2 : tie.Need-same-length-2
-same-length-2 c = search needs
 
 returns-2 : tie.Need-returns-2
 unfolding released
@@ -31,10 +16,10 @@ pub release-mutex-spec : {M : Type 1} → statement M
 release-mutex-spec =
     tie.close
     (tie.spec
-    release-refusal-requires
-    same-length
+    (λ c κs. search needs)
+    (λ c. search needs)
     returns
-    free-requires
-    wake-requires
-    same-length-2
+    (λ c κs. search needs)
+    (λ c κs. search needs)
+    (λ c. search needs)
     returns-2)

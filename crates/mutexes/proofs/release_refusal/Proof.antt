@@ -4,22 +4,13 @@ use borrow.Author.Needs.{needs}
 use Rattle.mutexes.proofs.release_refusal.Statement.{statement}
 use Rattle.mutexes.proofs.release_refusal.Tie as tie
 
-get-requires : tie.Need-get-requires
-get-requires c κs = search needs
-
 returns : tie.Need-returns
 unfolding releaseRefusal
 returns c = simp (← (c .before .get .ensures), eq-eqb _ _ (c .if1 .taken))
 
-place-of-requires : tie.Need-place-of-requires
-place-of-requires c κs = search needs
-
 returns-2 : tie.Need-returns-2
 unfolding releaseRefusal
 returns-2 c = simp (← (c .before .before .before .get .ensures), ne-eqb _ _ (c .before .before .if1 .left), ← (c .before .place-of .ensures), eq-eqb _ _ (c .if2 .taken))
-
-owner-of-requires : tie.Need-owner-of-requires
-owner-of-requires c κs = search needs
 
 returns-3 : tie.Need-returns-3
 unfolding releaseRefusal
@@ -33,10 +24,10 @@ pub release-refusal-spec : {M : Type 1} → statement M
 release-refusal-spec =
     tie.close
     (tie.spec
-    get-requires
+    (λ c κs. search needs)
     returns
-    place-of-requires
+    (λ c κs. search needs)
     returns-2
-    owner-of-requires
+    (λ c κs. search needs)
     returns-3
     returns-4)

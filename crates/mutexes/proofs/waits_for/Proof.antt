@@ -10,12 +10,6 @@ use borrow.Author.Needs.{needs}
 use Rattle.mutexes.proofs.waits_for.Statement.{statement}
 use Rattle.mutexes.proofs.waits_for.Tie as tie
 
-places-at-requires : tie.Need-places-at-requires
-places-at-requires c κs = search needs
-
-count-of-requires : tie.Need-count-of-requires
-count-of-requires c κs = search needs
-
 has-pair-requires : tie.Need-has-pair-requires
 has-pair-requires c κs = omega (arith, count-most (now (c .before .before .before .args .w)) (c .before .before .before .args .id), c .count-of .ensures)
 
@@ -31,4 +25,4 @@ returns-2 c =
 
 pub waits-for-spec : {M : Type 1} → statement M
 waits-for-spec =
-    tie.close (tie.spec places-at-requires count-of-requires has-pair-requires returns returns-2)
+    tie.close (tie.spec (λ c κs. search needs) (λ c κs. search needs) has-pair-requires returns returns-2)

@@ -4,22 +4,13 @@ use borrow.Author.Needs.{needs}
 use Rattle.objects.proofs.found_at.Statement.{statement}
 use Rattle.objects.proofs.found_at.Tie as tie
 
-find-requires : tie.Need-find-requires
-find-requires c κs = search needs
-
 returns : tie.Need-returns
 unfolding foundAt
 returns c = simp (← (c .before .find .ensures), le-leb _ _ (c .if1 .taken))
 
-key-at-requires : tie.Need-key-at-requires
-key-at-requires c κs = search needs
-
 returns-2 : tie.Need-returns-2
 unfolding foundAt
 returns-2 c = simp (← (c .before .before .before .find .ensures), lt-leb _ _ (c .before .before .if1 .left), ← (c .before .key-at .ensures), ne-eqb _ _ (c .if2 .taken))
-
-entry-at-requires : tie.Need-entry-at-requires
-entry-at-requires c κs = search needs
 
 returns-3 : tie.Need-returns-3
 unfolding foundAt
@@ -28,4 +19,4 @@ returns-3 c = simp (← (c .before .before .before .before .find .ensures), lt-l
 pub found-at-spec : {M : Type 1} → statement M
 found-at-spec =
     tie.close
-    (tie.spec find-requires returns key-at-requires returns-2 entry-at-requires returns-3)
+    (tie.spec (λ c κs. search needs) returns (λ c κs. search needs) returns-2 (λ c κs. search needs) returns-3)

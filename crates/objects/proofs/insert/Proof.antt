@@ -4,39 +4,9 @@ use borrow.Author.Needs.{needs}
 use Rattle.objects.proofs.insert.Statement.{statement}
 use Rattle.objects.proofs.insert.Tie as tie
 
-get-requires : tie.Need-get-requires
-get-requires c κs = search needs
-
-same-length : tie.Need-same-length
-same-length c = search needs
-
 returns : tie.Need-returns
 unfolding inserted
 returns c = simp (← (c .before .get .ensures), le-leb _ _ (c .if1 .taken))
-
-objects-base-requires : tie.Need-objects-base-requires
-objects-base-requires c κs = search needs
-
-find-requires : tie.Need-find-requires
-find-requires c κs = search needs
-
-open-gap-requires : tie.Need-open-gap-requires
-open-gap-requires c κs = search needs
-
-entry-at-requires : tie.Need-entry-at-requires
-entry-at-requires c κs = search needs
-
-put-object-requires : tie.Need-put-object-requires
-put-object-requires c κs = search needs
-
-add-put : tie.Need-add-put
-add-put c = search needs
-
-put-requires : tie.Need-put-requires
-put-requires c κs = search needs
-
-same-length-2 : tie.Need-same-length-2
-same-length-2 c = search needs
 
 returns-2 : tie.Need-returns-2
 unfolding inserted
@@ -46,15 +16,15 @@ pub insert-spec : {M : Type 1} → statement M
 insert-spec =
     tie.close
     (tie.spec
-    get-requires
-    same-length
+    (λ c κs. search needs)
+    (λ c. search needs)
     returns
-    objects-base-requires
-    find-requires
-    open-gap-requires
-    entry-at-requires
-    put-object-requires
-    add-put
-    put-requires
-    same-length-2
+    (λ c κs. search needs)
+    (λ c κs. search needs)
+    (λ c κs. search needs)
+    (λ c κs. search needs)
+    (λ c κs. search needs)
+    (λ c. search needs)
+    (λ c κs. search needs)
+    (λ c. search needs)
     returns-2)

@@ -4,18 +4,9 @@ use borrow.Author.Needs.{needs}
 use Rattle.objects.proofs.is_full.Statement.{statement}
 use Rattle.objects.proofs.is_full.Tie as tie
 
-find-object-requires : tie.Need-find-object-requires
-find-object-requires c κs = search needs
-
 returns : tie.Need-returns
 unfolding full
 returns c = simp (← (c .before .find-object .ensures), ne-eqb _ _ (c .if1 .taken))
-
-get-requires : tie.Need-get-requires
-get-requires c κs = search needs
-
-get-requires-2 : tie.Need-get-requires-2
-get-requires-2 c κs = search needs
 
 returns-2 : tie.Need-returns-2
 unfolding full
@@ -23,4 +14,4 @@ returns-2 c = simp (← (c .before .before .before .find-object .ensures), eq-eq
 
 pub is-full-spec : {M : Type 1} → statement M
 is-full-spec =
-    tie.close (tie.spec find-object-requires returns get-requires get-requires-2 returns-2)
+    tie.close (tie.spec (λ c κs. search needs) returns (λ c κs. search needs) (λ c κs. search needs) returns-2)

@@ -3,15 +3,9 @@ use borrow.Author.Needs.{needs}
 use Rattle.objects.proofs.objects_base.Statement.{statement}
 use Rattle.objects.proofs.objects_base.Tie as tie
 
-get-requires : tie.Need-get-requires
-get-requires c κs = search needs
-
-objects-at-requires : tie.Need-objects-at-requires
-objects-at-requires c κs = search needs
-
 returns : tie.Need-returns
 unfolding objectsBase
 returns c = cc
 
 pub objects-base-spec : {M : Type 1} → statement M
-objects-base-spec = tie.close (tie.spec get-requires objects-at-requires returns)
+objects-base-spec = tie.close (tie.spec (λ c κs. search needs) (λ c κs. search needs) returns)

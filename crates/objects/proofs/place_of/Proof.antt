@@ -4,15 +4,9 @@ use borrow.Author.Needs.{needs}
 use Rattle.objects.proofs.place_of.Statement.{statement}
 use Rattle.objects.proofs.place_of.Tie as tie
 
-find-object-requires : tie.Need-find-object-requires
-find-object-requires c κs = search needs
-
 returns : tie.Need-returns
 unfolding placeOf
 returns c = simp (← (c .before .find-object .ensures), eq-eqb _ _ (c .if1 .taken))
-
-get-in-requires : tie.Need-get-in-requires
-get-in-requires c κs = search needs
 
 returns-2 : tie.Need-returns-2
 unfolding placeOf
@@ -24,4 +18,4 @@ returns-3 c = simp (← (c .before .before .before .find-object .ensures), ne-eq
 
 pub place-of-spec : {M : Type 1} → statement M
 place-of-spec =
-    tie.close (tie.spec find-object-requires returns get-in-requires returns-2 returns-3)
+    tie.close (tie.spec (λ c κs. search needs) returns (λ c κs. search needs) returns-2 returns-3)

@@ -9,15 +9,9 @@ use borrow.Author.Needs.{needs}
 use Rattle.opening.proofs.open_refusal.Statement.{statement}
 use Rattle.opening.proofs.open_refusal.Tie as tie
 
-is-bad-priority-requires : tie.Need-is-bad-priority-requires
-is-bad-priority-requires c κs = search needs
-
 returns : tie.Need-returns
 unfolding openRefusal
 returns c = simp (sym (c .before .is-bad-priority .ensures) ∙ c .if1 .taken)
-
-has-bad-limits-requires : tie.Need-has-bad-limits-requires
-has-bad-limits-requires c κs = search needs
 
 returns-2 : tie.Need-returns-2
 unfolding openRefusal
@@ -38,9 +32,9 @@ pub open-refusal-spec : {M : Type 1} → statement M
 open-refusal-spec =
     tie.close
     (tie.spec
-    is-bad-priority-requires
+    (λ c κs. search needs)
     returns
-    has-bad-limits-requires
+    (λ c κs. search needs)
     returns-2
     needed-requires
     returns-3

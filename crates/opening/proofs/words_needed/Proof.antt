@@ -4,9 +4,6 @@ use borrow.Author.Needs.{needs}
 use Rattle.opening.proofs.words_needed.Statement.{statement}
 use Rattle.opening.proofs.words_needed.Tie as tie
 
-has-bad-limits-requires : tie.Need-has-bad-limits-requires
-has-bad-limits-requires c κs = search needs
-
 returns : tie.Need-returns
 unfolding sized
 returns c = simp (sym (c .before .has-bad-limits .ensures) ∙ c .if1 .taken)
@@ -19,4 +16,4 @@ unfolding sized
 returns-2 c = simp (sym (c .before .before .has-bad-limits .ensures) ∙ c .before .if1 .left) (cc)
 
 pub words-needed-spec : {M : Type 1} → statement M
-words-needed-spec = tie.close (tie.spec has-bad-limits-requires returns needed-requires returns-2)
+words-needed-spec = tie.close (tie.spec (λ c κs. search needs) returns needed-requires returns-2)

@@ -5,21 +5,9 @@ use borrow.Author.Needs.{needs}
 use Rattle.scheduler_images.proofs.dpc_image.Statement.{statement}
 use Rattle.scheduler_images.proofs.dpc_image.Tie as tie
 
-is-refused-requires : tie.Need-is-refused-requires
-is-refused-requires c κs = search needs
-
-same-length : tie.Need-same-length
-same-length c = search needs
-
 returns : tie.Need-returns
 unfolding called guardedImage
 returns c = simp (sym (c .before .is-refused .ensures) ∙ c .if1 .taken)
-
-put-dpc-requires : tie.Need-put-dpc-requires
-put-dpc-requires c κs = search needs
-
-same-length-2 : tie.Need-same-length-2
-same-length-2 c = search needs
 
 returns-2 : tie.Need-returns-2
 unfolding called guardedImage
@@ -28,4 +16,4 @@ returns-2 c = simp (sym (c .before .before .before .before .before .is-refused .
 pub dpc-image-spec : {M : Type 1} → statement M
 dpc-image-spec =
     tie.close
-    (tie.spec is-refused-requires same-length returns put-dpc-requires same-length-2 returns-2)
+    (tie.spec (λ c κs. search needs) (λ c. search needs) returns (λ c κs. search needs) (λ c. search needs) returns-2)

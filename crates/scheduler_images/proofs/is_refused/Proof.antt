@@ -5,9 +5,6 @@ use borrow.Author.Needs.{needs}
 use Rattle.scheduler_images.proofs.is_refused.Statement.{statement}
 use Rattle.scheduler_images.proofs.is_refused.Tie as tie
 
-in-form-requires : tie.Need-in-form-requires
-in-form-requires c κs = search needs
-
 returns : tie.Need-returns
 unfolding imageRefused
 returns c = simp (sym (c .before .in-form .ensures) ∙ not-true _ (c .if1 .taken))
@@ -17,4 +14,4 @@ unfolding imageRefused
 returns-2 c = simp (sym (c .before .in-form .ensures) ∙ not-false _ (c .if1 .left)) (cc)
 
 pub is-refused-spec : {M : Type 1} → statement M
-is-refused-spec = tie.close (tie.spec in-form-requires returns returns-2)
+is-refused-spec = tie.close (tie.spec (λ c κs. search needs) returns returns-2)

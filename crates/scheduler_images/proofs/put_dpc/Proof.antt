@@ -4,27 +4,9 @@ use borrow.Author.Needs.{needs}
 use Rattle.scheduler_images.proofs.put_dpc.Statement.{statement}
 use Rattle.scheduler_images.proofs.put_dpc.Tie as tie
 
-number-of-requires : tie.Need-number-of-requires
-number-of-requires c κs = search needs
-
 returns : tie.Need-returns
 unfolding dpcImaged
 returns c = simp (← (c .before .number-of .ensures), eq-eqb _ _ (c .if1 .taken)) (cc)
-
-place-requires : tie.Need-place-requires
-place-requires c κs = search needs
-
-read-dpc-requires : tie.Need-read-dpc-requires
-read-dpc-requires c κs = search needs
-
-dpc-bytes-requires : tie.Need-dpc-bytes-requires
-dpc-bytes-requires c κs = search needs
-
-dpc-size-at-requires : tie.Need-dpc-size-at-requires
-dpc-size-at-requires c κs = search needs
-
-same-length : tie.Need-same-length
-same-length c = search needs
 
 returns-2 : tie.Need-returns-2
 unfolding dpcImaged
@@ -34,11 +16,11 @@ pub put-dpc-spec : {M : Type 1} → statement M
 put-dpc-spec =
     tie.close
     (tie.spec
-    number-of-requires
+    (λ c κs. search needs)
     returns
-    place-requires
-    read-dpc-requires
-    dpc-bytes-requires
-    dpc-size-at-requires
-    same-length
+    (λ c κs. search needs)
+    (λ c κs. search needs)
+    (λ c κs. search needs)
+    (λ c κs. search needs)
+    (λ c. search needs)
     returns-2)

@@ -4,24 +4,9 @@ use borrow.Author.Needs.{needs}
 use Rattle.scheduler_images.proofs.put_timer.Statement.{statement}
 use Rattle.scheduler_images.proofs.put_timer.Tie as tie
 
-place-of-requires : tie.Need-place-of-requires
-place-of-requires c κs = search needs
-
 returns : tie.Need-returns
 unfolding timerImaged
 returns c = simp (← (c .before .place-of .ensures), eq-eqb _ _ (c .if1 .taken)) (cc)
-
-read-timer-requires : tie.Need-read-timer-requires
-read-timer-requires c κs = search needs
-
-timer-bytes-requires : tie.Need-timer-bytes-requires
-timer-bytes-requires c κs = search needs
-
-size-at-requires : tie.Need-size-at-requires
-size-at-requires c κs = search needs
-
-same-length : tie.Need-same-length
-same-length c = search needs
 
 returns-2 : tie.Need-returns-2
 unfolding timerImaged
@@ -31,10 +16,10 @@ pub put-timer-spec : {M : Type 1} → statement M
 put-timer-spec =
     tie.close
     (tie.spec
-    place-of-requires
+    (λ c κs. search needs)
     returns
-    read-timer-requires
-    timer-bytes-requires
-    size-at-requires
-    same-length
+    (λ c κs. search needs)
+    (λ c κs. search needs)
+    (λ c κs. search needs)
+    (λ c. search needs)
     returns-2)

@@ -10,17 +10,8 @@ returns : tie.Need-returns
 unfolding readLine
 returns c = simp (lt-ltb _ _ (c .if1 .taken))
 
-text-length-requires : tie.Need-text-length-requires
-text-length-requires c κs = search needs
-
 slice-aggregate-read-text : tie.Need-slice-aggregate-read-text
 slice-aggregate-read-text c = sym (length-take-le _ _ (c .before .text-length .ensures .1))
-
-read-text-requires : tie.Need-read-text-requires
-read-text-requires c κs = search needs
-
-same-length : tie.Need-same-length
-same-length c = search needs
 
 returns-2 : tie.Need-returns-2
 unfolding readLine
@@ -31,8 +22,8 @@ read-line-spec =
     tie.close
     (tie.spec
     returns
-    text-length-requires
+    (λ c κs. search needs)
     slice-aggregate-read-text
-    read-text-requires
-    same-length
+    (λ c κs. search needs)
+    (λ c. search needs)
     returns-2)

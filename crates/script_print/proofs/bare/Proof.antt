@@ -4,9 +4,6 @@ use borrow.Author.Needs.{needs}
 use Rattle.script_print.proofs.bare.Statement.{statement}
 use Rattle.script_print.proofs.bare.Tie as tie
 
-enum-known-a : tie.Need-enum-known-a
-enum-known-a c = search needs
-
 returns : tie.Need-returns
 unfolding bareAnswer
 returns c = simp (c .before .a .given .1)
@@ -15,4 +12,4 @@ returns-2 : tie.Need-returns-2
 returns-2 c = no-thread (c .before .args .a) (c .match .keys2)
 
 pub bare-spec : {M : Type 1} → statement M
-bare-spec = tie.close (tie.spec enum-known-a returns returns-2)
+bare-spec = tie.close (tie.spec (λ c. search needs) returns returns-2)

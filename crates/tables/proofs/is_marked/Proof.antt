@@ -3,12 +3,9 @@ use borrow.Author.Needs.{needs}
 use Rattle.tables.proofs.is_marked.Statement.{statement}
 use Rattle.tables.proofs.is_marked.Tie as tie
 
-get-in-requires : tie.Need-get-in-requires
-get-in-requires c κs = search needs
-
 returns : tie.Need-returns
 unfolding isMarked
 returns c = cc
 
 pub is-marked-spec : {M : Type 1} → statement M
-is-marked-spec = tie.close (tie.spec get-in-requires returns)
+is-marked-spec = tie.close (tie.spec (λ c κs. search needs) returns)

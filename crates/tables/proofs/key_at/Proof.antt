@@ -3,15 +3,9 @@ use borrow.Author.Needs.{needs}
 use Rattle.tables.proofs.key_at.Statement.{statement}
 use Rattle.tables.proofs.key_at.Tie as tie
 
-entry-at-requires : tie.Need-entry-at-requires
-entry-at-requires c κs = search needs
-
-get-requires : tie.Need-get-requires
-get-requires c κs = search needs
-
 returns : tie.Need-returns
 unfolding keyAt
 returns c = cc
 
 pub key-at-spec : {M : Type 1} → statement M
-key-at-spec = tie.close (tie.spec entry-at-requires get-requires returns)
+key-at-spec = tie.close (tie.spec (λ c κs. search needs) (λ c κs. search needs) returns)

@@ -18,17 +18,8 @@ returns-3 : tie.Need-returns-3
 unfolding gapOpened
 returns-3 c = simp (le-ltb _ _ (c .before .before .if1 .left), le-ltb _ _ (c .before .if2 .left), lt-ltb _ _ (c .if3 .taken))
 
-entry-at-requires : tie.Need-entry-at-requires
-entry-at-requires c κs = search needs
-
-mul-raise : tie.Need-mul-raise
-mul-raise c = search needs
-
 raise-requires : tie.Need-raise-requires
 raise-requires c κs = omega (arith, entry-is (c .before .before .before .before .before .before .args .base) (c .before .before .before .before .before .before .args .n) (c .before .before .before .before .if1 .left) (omega arith), c .entry-at .ensures)
-
-same-length : tie.Need-same-length
-same-length c = search needs
 
 returns-4 : tie.Need-returns-4
 unfolding gapOpened
@@ -41,8 +32,8 @@ open-gap-spec =
     returns
     returns-2
     returns-3
-    entry-at-requires
-    mul-raise
+    (λ c κs. search needs)
+    (λ c. search needs)
     raise-requires
-    same-length
+    (λ c. search needs)
     returns-4)

@@ -7,24 +7,9 @@ use borrow.Author.Needs.{needs}
 use Rattle.threading.proofs.add_thread.Statement.{statement}
 use Rattle.threading.proofs.add_thread.Tie as tie
 
-put-requires : tie.Need-put-requires
-put-requires c κs = search needs
-
-no-wait-requires : tie.Need-no-wait-requires
-no-wait-requires c κs = search needs
-
 write-wait-requires : tie.Need-write-wait-requires
 unfolding noWait
 write-wait-requires c κs = let e : c .no-wait .result .count ≡ 0 = ap (λ (x : Wait). x .count) (c .no-wait .ensures) in omega arith
-
-write-thread-requires : tie.Need-write-thread-requires
-write-thread-requires c κs = search needs
-
-place-requires : tie.Need-place-requires
-place-requires c κs = search needs
-
-same-length : tie.Need-same-length
-same-length c = search needs
 
 returns : tie.Need-returns
 unfolding createdThread
@@ -34,10 +19,10 @@ pub add-thread-spec : {M : Type 1} → statement M
 add-thread-spec =
     tie.close
     (tie.spec
-    put-requires
-    no-wait-requires
+    (λ c κs. search needs)
+    (λ c κs. search needs)
     write-wait-requires
-    write-thread-requires
-    place-requires
-    same-length
+    (λ c κs. search needs)
+    (λ c κs. search needs)
+    (λ c. search needs)
     returns)

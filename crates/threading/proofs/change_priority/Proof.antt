@@ -7,30 +7,9 @@ use borrow.Author.Needs.{needs}
 use Rattle.threading.proofs.change_priority.Statement.{statement}
 use Rattle.threading.proofs.change_priority.Tie as tie
 
-read-thread-requires : tie.Need-read-thread-requires
-read-thread-requires c κs = search needs
-
-unplace-requires : tie.Need-unplace-requires
-unplace-requires c κs = search needs
-
-with-priority-requires : tie.Need-with-priority-requires
-with-priority-requires c κs = search needs
-
-place-requires : tie.Need-place-requires
-place-requires c κs = search needs
-
-same-length : tie.Need-same-length
-same-length c = search needs
-
 returns : tie.Need-returns
 unfolding moved
 returns c = let e : threadOf (now (c .before .before .before .before .before .before .before .before .before .before .before .before .before .before .before .before .before .args .w)) (c .before .before .before .before .before .before .before .before .before .before .before .before .before .before .before .before .before .args .id) .state ≡ 2 = cc in simp (eq-eqb _ _ e) (cc)
-
-with-priority-requires-2 : tie.Need-with-priority-requires-2
-with-priority-requires-2 c κs = search needs
-
-same-length-2 : tie.Need-same-length-2
-same-length-2 c = search needs
 
 returns-2 : tie.Need-returns-2
 unfolding moved
@@ -40,12 +19,12 @@ pub change-priority-spec : {M : Type 1} → statement M
 change-priority-spec =
     tie.close
     (tie.spec
-    read-thread-requires
-    unplace-requires
-    with-priority-requires
-    place-requires
-    same-length
+    (λ c κs. search needs)
+    (λ c κs. search needs)
+    (λ c κs. search needs)
+    (λ c κs. search needs)
+    (λ c. search needs)
     returns
-    with-priority-requires-2
-    same-length-2
+    (λ c κs. search needs)
+    (λ c. search needs)
     returns-2)

@@ -5,18 +5,9 @@ use borrow.Author.Needs.{needs}
 use Rattle.threading.proofs.create_refusal.Statement.{statement}
 use Rattle.threading.proofs.create_refusal.Tie as tie
 
-is-bad-priority-requires : tie.Need-is-bad-priority-requires
-is-bad-priority-requires c κs = search needs
-
 returns : tie.Need-returns
 unfolding createRefusal
 returns c = simp (sym (c .before .is-bad-priority .ensures) ∙ c .if1 .taken)
-
-get-requires : tie.Need-get-requires
-get-requires c κs = search needs
-
-get-requires-2 : tie.Need-get-requires-2
-get-requires-2 c κs = search needs
 
 returns-2 : tie.Need-returns-2
 unfolding createRefusal
@@ -29,4 +20,4 @@ returns-3 c = simp (sym (c .before .before .before .before .is-bad-priority .ens
 pub create-refusal-spec : {M : Type 1} → statement M
 create-refusal-spec =
     tie.close
-    (tie.spec is-bad-priority-requires returns get-requires get-requires-2 returns-2 returns-3)
+    (tie.spec (λ c κs. search needs) returns (λ c κs. search needs) (λ c κs. search needs) returns-2 returns-3)

@@ -4,27 +4,9 @@ use borrow.Author.Needs.{needs}
 use Rattle.threading.proofs.create_thread.Statement.{statement}
 use Rattle.threading.proofs.create_thread.Tie as tie
 
-create-refusal-requires : tie.Need-create-refusal-requires
-create-refusal-requires c κs = search needs
-
-same-length : tie.Need-same-length
-same-length c = search needs
-
 returns : tie.Need-returns
 unfolding created
 returns c = simp (← (c .before .create-refusal .ensures), ne-eqb _ _ (c .if1 .taken))
-
-get-requires : tie.Need-get-requires
-get-requires c κs = search needs
-
-wrapping-add-u64-requires : tie.Need-wrapping-add-u64-requires
-wrapping-add-u64-requires c κs = search needs
-
-add-thread-requires : tie.Need-add-thread-requires
-add-thread-requires c κs = search needs
-
-same-length-2 : tie.Need-same-length-2
-same-length-2 c = search needs
 
 returns-2 : tie.Need-returns-2
 unfolding created
@@ -34,11 +16,11 @@ pub create-thread-spec : {M : Type 1} → statement M
 create-thread-spec =
     tie.close
     (tie.spec
-    create-refusal-requires
-    same-length
+    (λ c κs. search needs)
+    (λ c. search needs)
     returns
-    get-requires
-    wrapping-add-u64-requires
-    add-thread-requires
-    same-length-2
+    (λ c κs. search needs)
+    (λ c κs. search needs)
+    (λ c κs. search needs)
+    (λ c. search needs)
     returns-2)

@@ -4,9 +4,6 @@ use borrow.Author.Needs.{needs}
 use Rattle.threading.proofs.current.Statement.{statement}
 use Rattle.threading.proofs.current.Tie as tie
 
-get-requires : tie.Need-get-requires
-get-requires c κs = search needs
-
 returns : tie.Need-returns
 unfolding currentAnswer
 returns c = simp (← (c .before .get .ensures), eq-eqb _ _ (c .if1 .taken))
@@ -16,4 +13,4 @@ unfolding currentAnswer
 returns-2 c = simp (← (c .before .get .ensures), ne-eqb _ _ (c .if1 .left))
 
 pub current-spec : {M : Type 1} → statement M
-current-spec = tie.close (tie.spec get-requires returns returns-2)
+current-spec = tie.close (tie.spec (λ c κs. search needs) returns returns-2)

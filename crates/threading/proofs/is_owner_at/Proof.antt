@@ -9,15 +9,6 @@ use borrow.Author.Needs.{needs}
 use Rattle.threading.proofs.is_owner_at.Statement.{statement}
 use Rattle.threading.proofs.is_owner_at.Tie as tie
 
-entry-at-requires : tie.Need-entry-at-requires
-entry-at-requires c κs = search needs
-
-get-in-requires : tie.Need-get-in-requires
-get-in-requires c κs = search needs
-
-get-in-requires-2 : tie.Need-get-in-requires-2
-get-in-requires-2 c κs = search needs
-
 returns : tie.Need-returns
 unfolding ownerAt
 returns c = let e : getD (now (c .before .before .before .before .before .args .w)) (entryAt (c .before .before .before .before .before .args .base) (c .before .before .before .before .before .args .i) + 1) 0 ≡ 0 = cc in simp (eq-eqb _ _ e) (cc)
@@ -28,4 +19,4 @@ returns-2 c = let e : getD (now (c .before .before .before .before .args .w)) (e
 
 pub is-owner-at-spec : {M : Type 1} → statement M
 is-owner-at-spec =
-    tie.close (tie.spec entry-at-requires get-in-requires get-in-requires-2 returns returns-2)
+    tie.close (tie.spec (λ c κs. search needs) (λ c κs. search needs) (λ c κs. search needs) returns returns-2)

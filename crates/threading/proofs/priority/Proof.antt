@@ -4,21 +4,9 @@ use borrow.Author.Needs.{needs}
 use Rattle.threading.proofs.priority.Statement.{statement}
 use Rattle.threading.proofs.priority.Tie as tie
 
-priority-refusal-requires : tie.Need-priority-refusal-requires
-priority-refusal-requires c κs = search needs
-
-same-length : tie.Need-same-length
-same-length c = search needs
-
 returns : tie.Need-returns
 unfolding prioritized
 returns c = simp (← (c .before .priority-refusal .ensures), ne-eqb _ _ (c .if1 .taken))
-
-change-priority-requires : tie.Need-change-priority-requires
-change-priority-requires c κs = search needs
-
-same-length-2 : tie.Need-same-length-2
-same-length-2 c = search needs
 
 returns-2 : tie.Need-returns-2
 unfolding prioritized
@@ -28,9 +16,9 @@ pub priority-spec : {M : Type 1} → statement M
 priority-spec =
     tie.close
     (tie.spec
-    priority-refusal-requires
-    same-length
+    (λ c κs. search needs)
+    (λ c. search needs)
     returns
-    change-priority-requires
-    same-length-2
+    (λ c κs. search needs)
+    (λ c. search needs)
     returns-2)

@@ -5,22 +5,13 @@ use borrow.Author.Needs.{needs}
 use Rattle.threading.proofs.priority_refusal.Statement.{statement}
 use Rattle.threading.proofs.priority_refusal.Tie as tie
 
-is-bad-priority-requires : tie.Need-is-bad-priority-requires
-is-bad-priority-requires c κs = search needs
-
 returns : tie.Need-returns
 unfolding priorityRefusal
 returns c = simp (sym (c .before .is-bad-priority .ensures) ∙ c .if1 .taken)
 
-is-known-requires : tie.Need-is-known-requires
-is-known-requires c κs = search needs
-
 returns-2 : tie.Need-returns-2
 unfolding priorityRefusal
 returns-2 c = simp (sym (c .before .before .before .is-bad-priority .ensures) ∙ c .before .before .if1 .left, sym (c .before .is-known .ensures) ∙ not-true _ (c .if2 .taken))
-
-is-exited-requires : tie.Need-is-exited-requires
-is-exited-requires c κs = search needs
 
 returns-3 : tie.Need-returns-3
 unfolding priorityRefusal
@@ -34,10 +25,10 @@ pub priority-refusal-spec : {M : Type 1} → statement M
 priority-refusal-spec =
     tie.close
     (tie.spec
-    is-bad-priority-requires
+    (λ c κs. search needs)
     returns
-    is-known-requires
+    (λ c κs. search needs)
     returns-2
-    is-exited-requires
+    (λ c κs. search needs)
     returns-3
     returns-4)

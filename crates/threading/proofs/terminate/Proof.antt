@@ -4,27 +4,9 @@ use borrow.Author.Needs.{needs}
 use Rattle.threading.proofs.terminate.Statement.{statement}
 use Rattle.threading.proofs.terminate.Tie as tie
 
-terminate-refusal-requires : tie.Need-terminate-refusal-requires
-terminate-refusal-requires c κs = search needs
-
-same-length : tie.Need-same-length
-same-length c = search needs
-
 returns : tie.Need-returns
 unfolding terminated
 returns c = simp (← (c .before .terminate-refusal .ensures), ne-eqb _ _ (c .if1 .taken))
-
-get-requires : tie.Need-get-requires
-get-requires c κs = search needs
-
-exit-requires : tie.Need-exit-requires
-exit-requires c κs = search needs
-
-wake-requires : tie.Need-wake-requires
-wake-requires c κs = search needs
-
-same-length-2 : tie.Need-same-length-2
-same-length-2 c = search needs
 
 returns-2 : tie.Need-returns-2
 unfolding terminated
@@ -34,11 +16,11 @@ pub terminate-spec : {M : Type 1} → statement M
 terminate-spec =
     tie.close
     (tie.spec
-    terminate-refusal-requires
-    same-length
+    (λ c κs. search needs)
+    (λ c. search needs)
     returns
-    get-requires
-    exit-requires
-    wake-requires
-    same-length-2
+    (λ c κs. search needs)
+    (λ c κs. search needs)
+    (λ c κs. search needs)
+    (λ c. search needs)
     returns-2)

@@ -5,15 +5,9 @@ use borrow.Author.Needs.{needs}
 use Rattle.threading.proofs.terminate_refusal.Statement.{statement}
 use Rattle.threading.proofs.terminate_refusal.Tie as tie
 
-get-requires : tie.Need-get-requires
-get-requires c κs = search needs
-
 returns : tie.Need-returns
 unfolding terminateRefusal
 returns c = simp (← (c .before .get .ensures), eq-eqb _ _ (c .if1 .taken))
-
-owns-mutex-requires : tie.Need-owns-mutex-requires
-owns-mutex-requires c κs = search needs
 
 returns-2 : tie.Need-returns-2
 unfolding terminateRefusal
@@ -25,4 +19,4 @@ returns-3 c = simp (← (c .before .before .before .get .ensures), ne-eqb _ _ (c
 
 pub terminate-refusal-spec : {M : Type 1} → statement M
 terminate-refusal-spec =
-    tie.close (tie.spec get-requires returns owns-mutex-requires returns-2 returns-3)
+    tie.close (tie.spec (λ c κs. search needs) returns (λ c κs. search needs) returns-2 returns-3)

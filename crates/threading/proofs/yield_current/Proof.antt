@@ -4,21 +4,9 @@ use borrow.Author.Needs.{needs}
 use Rattle.threading.proofs.yield_current.Statement.{statement}
 use Rattle.threading.proofs.yield_current.Tie as tie
 
-get-requires : tie.Need-get-requires
-get-requires c κs = search needs
-
-same-length : tie.Need-same-length
-same-length c = search needs
-
 returns : tie.Need-returns
 unfolding yielded
 returns c = simp (← (c .before .get .ensures), eq-eqb _ _ (c .if1 .taken))
-
-leave-requires : tie.Need-leave-requires
-leave-requires c κs = search needs
-
-same-length-2 : tie.Need-same-length-2
-same-length-2 c = search needs
 
 returns-2 : tie.Need-returns-2
 unfolding yielded
@@ -26,4 +14,4 @@ returns-2 c = simp (← (c .before .before .before .before .before .get .ensures
 
 pub yield-current-spec : {M : Type 1} → statement M
 yield-current-spec =
-    tie.close (tie.spec get-requires same-length returns leave-requires same-length-2 returns-2)
+    tie.close (tie.spec (λ c κs. search needs) (λ c. search needs) returns (λ c κs. search needs) (λ c. search needs) returns-2)

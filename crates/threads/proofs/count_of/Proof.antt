@@ -10,12 +10,6 @@ use borrow.Author.Needs.{needs}
 use Rattle.threads.proofs.count_of.Statement.{statement}
 use Rattle.threads.proofs.count_of.Tie as tie
 
-thread-at-requires : tie.Need-thread-at-requires
-thread-at-requires c κs = search needs
-
-get-in-requires : tie.Need-get-in-requires
-get-in-requires c κs = search needs
-
 returns : tie.Need-returns
 unfolding countOf
 returns c = let e : getD (now (c .before .before .before .before .args .w)) (threadAt (c .before .before .before .before .args .id) + at.waitCount) 0 ≡ c .before .get-in .result = cc in simp (e, le-leb _ _ (c .if1 .taken))
@@ -25,4 +19,4 @@ unfolding countOf
 returns-2 c = let e : getD (now (c .before .before .before .before .args .w)) (threadAt (c .before .before .before .before .args .id) + at.waitCount) 0 ≡ c .before .get-in .result = cc in simp (e, lt-leb _ _ (c .if1 .left))
 
 pub count-of-spec : {M : Type 1} → statement M
-count-of-spec = tie.close (tie.spec thread-at-requires get-in-requires returns returns-2)
+count-of-spec = tie.close (tie.spec (λ c κs. search needs) (λ c κs. search needs) returns returns-2)

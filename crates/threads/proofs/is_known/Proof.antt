@@ -8,12 +8,9 @@ returns : tie.Need-returns
 unfolding known
 returns c = simp (lt-ltb _ _ (c .if1 .taken))
 
-get-requires : tie.Need-get-requires
-get-requires c κs = search needs
-
 returns-2 : tie.Need-returns-2
 unfolding known
 returns-2 c = simp (le-ltb _ _ (c .before .if1 .left)) (cc)
 
 pub is-known-spec : {M : Type 1} → statement M
-is-known-spec = tie.close (tie.spec returns get-requires returns-2)
+is-known-spec = tie.close (tie.spec returns (λ c κs. search needs) returns-2)

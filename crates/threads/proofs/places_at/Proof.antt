@@ -5,9 +5,6 @@ use borrow.Author.Needs.{needs}
 use Rattle.threads.proofs.places_at.Statement.{statement}
 use Rattle.threads.proofs.places_at.Tie as tie
 
-thread-at-requires : tie.Need-thread-at-requires
-thread-at-requires c κs = search needs
-
 add-result : tie.Need-add-result
 add-result c = omega (arith, thread-small (c .before .args .id), c .thread-at .ensures)
 
@@ -16,4 +13,4 @@ unfolding placesAt
 returns c = cc
 
 pub places-at-spec : {M : Type 1} → statement M
-places-at-spec = tie.close (tie.spec thread-at-requires add-result returns)
+places-at-spec = tie.close (tie.spec (λ c κs. search needs) add-result returns)

@@ -8,9 +8,6 @@ returns : tie.Need-returns
 unfolding blockRefusal
 returns c = simp (lt-ltb _ _ (c .if1 .taken))
 
-get-requires : tie.Need-get-requires
-get-requires c κs = search needs
-
 returns-2 : tie.Need-returns-2
 unfolding blockRefusal
 returns-2 c = simp (le-ltb _ _ (c .before .before .if1 .left), ← (c .before .get .ensures), le-leb _ _ (c .if2 .taken))
@@ -20,4 +17,4 @@ unfolding blockRefusal
 returns-3 c = simp (le-ltb _ _ (c .before .before .if1 .left), ← (c .before .get .ensures), lt-leb _ _ (c .if2 .left))
 
 pub block-refusal-spec : {M : Type 1} → statement M
-block-refusal-spec = tie.close (tie.spec returns get-requires returns-2 returns-3)
+block-refusal-spec = tie.close (tie.spec returns (λ c κs. search needs) returns-2 returns-3)

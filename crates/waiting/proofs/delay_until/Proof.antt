@@ -11,30 +11,15 @@ returns : tie.Need-returns
 unfolding delayed
 returns c = simp (lt-ltb _ _ (c .if1 .taken))
 
-get-requires : tie.Need-get-requires
-get-requires c κs = search needs
-
-same-length : tie.Need-same-length
-same-length c = search needs
-
 returns-2 : tie.Need-returns-2
 unfolding delayed
 returns-2 c = simp (le-ltb _ _ (c .before .before .before .if1 .left), ← (c .before .get .ensures), eq-eqb _ _ (c .if2 .taken))
-
-get-requires-2 : tie.Need-get-requires-2
-get-requires-2 c κs = search needs
-
-delay-wait-requires : tie.Need-delay-wait-requires
-delay-wait-requires c κs = search needs
 
 decide-requires : tie.Need-decide-requires
 unfolding delayWait
 decide-requires c κs =
     let e : c .delay-wait .result .count ≡ 0 = ap (λ (x : Wait). x .count) (c .delay-wait .ensures) in
     omega arith
-
-same-length-2 : tie.Need-same-length-2
-same-length-2 c = search needs
 
 returns-3 : tie.Need-returns-3
 unfolding delayed
@@ -45,11 +30,11 @@ delay-until-spec =
     tie.close
     (tie.spec
     returns
-    get-requires
-    same-length
+    (λ c κs. search needs)
+    (λ c. search needs)
     returns-2
-    get-requires-2
-    delay-wait-requires
+    (λ c κs. search needs)
+    (λ c κs. search needs)
     decide-requires
-    same-length-2
+    (λ c. search needs)
     returns-3)

@@ -3,9 +3,6 @@ use borrow.Author.Needs.{needs}
 use Rattle.waiting.proofs.is_reached.Statement.{statement}
 use Rattle.waiting.proofs.is_reached.Tie as tie
 
-get-requires : tie.Need-get-requires
-get-requires c κs = search needs
-
 returns : tie.Need-returns
 unfolding reached
 returns c = simp (c .before .if1 .taken) (cc)
@@ -15,4 +12,4 @@ unfolding reached
 returns-2 c = simp (c .if1 .left)
 
 pub is-reached-spec : {M : Type 1} → statement M
-is-reached-spec = tie.close (tie.spec get-requires returns returns-2)
+is-reached-spec = tie.close (tie.spec (λ c κs. search needs) returns returns-2)

@@ -22,9 +22,6 @@ returns-3 : tie.Need-returns-3
 unfolding listRefusal
 returns-3 c = simp (eq-eqb _ _ (c .before .before .if1 .left), ne-eqb _ _ (c .before .if2 .left), lt-ltb _ _ (c .if3 .taken))
 
-pairs-requires : tie.Need-pairs-requires
-pairs-requires c κs = search needs
-
 has-bad-kind-requires : tie.Need-has-bad-kind-requires
 has-bad-kind-requires c κs = omega (arith, pairs-most (now (c .before .before .before .before .before .args .list)), c .pairs .ensures)
 
@@ -58,7 +55,7 @@ list-refusal-spec =
     returns
     returns-2
     returns-3
-    pairs-requires
+    (λ c κs. search needs)
     has-bad-kind-requires
     returns-4
     has-duplicate-requires

@@ -3,15 +3,9 @@ use borrow.Author.Needs.{needs}
 use Rattle.waiting.proofs.time_out.Statement.{statement}
 use Rattle.waiting.proofs.time_out.Tie as tie
 
-set-result-requires : tie.Need-set-result-requires
-set-result-requires c κs = search needs
-
-same-length : tie.Need-same-length
-same-length c = search needs
-
 returns : tie.Need-returns
 unfolding timedOut
 returns c = cc
 
 pub time-out-spec : {M : Type 1} → statement M
-time-out-spec = tie.close (tie.spec set-result-requires same-length returns)
+time-out-spec = tie.close (tie.spec (λ c κs. search needs) (λ c. search needs) returns)

@@ -8,24 +8,9 @@ use borrow.Author.Needs.{needs}
 use Rattle.waiting.proofs.wait.Statement.{statement}
 use Rattle.waiting.proofs.wait.Tie as tie
 
-wait-refusal-requires : tie.Need-wait-refusal-requires
-wait-refusal-requires c κs = search needs
-
-same-length : tie.Need-same-length
-same-length c = search needs
-
 returns : tie.Need-returns
 unfolding waited
 returns c = simp (← (c .before .wait-refusal .ensures), ne-eqb _ _ (c .if1 .taken))
-
-get-requires : tie.Need-get-requires
-get-requires c κs = search needs
-
-pairs-requires : tie.Need-pairs-requires
-pairs-requires c κs = search needs
-
-flag-requires : tie.Need-flag-requires
-flag-requires c κs = search needs
 
 is-met-requires : tie.Need-is-met-requires
 is-met-requires c κs = omega (arith, pairs-most (now (c .before .before .before .before .before .before .before .before .before .before .args .list)), c .before .before .pairs .ensures)
@@ -33,18 +18,12 @@ is-met-requires c κs = omega (arith, pairs-most (now (c .before .before .before
 grant-requires : tie.Need-grant-requires
 grant-requires c κs = omega (arith, pairs-most (now (c .before .before .before .before .before .before .before .before .before .before .before .before .before .args .list)), c .before .before .before .before .before .pairs .ensures)
 
-same-length-2 : tie.Need-same-length-2
-same-length-2 c = search needs
-
 returns-2 : tie.Need-returns-2
 unfolding waited
 returns-2 c = simp (← (c .before .before .before .before .before .before .before .before .before .before .before .before .wait-refusal .ensures), eq-eqb _ _ (c .before .before .before .before .before .before .before .before .before .before .before .if1 .left), ← (c .before .before .before .before .before .before .before .before .before .get .ensures), ← (c .before .before .before .before .before .before .before .before .pairs .ensures), ← (c .before .before .before .before .before .before .before .flag .ensures), sym (c .before .before .before .before .before .is-met .ensures) ∙ c .before .before .before .before .if2 .taken) (c .before .before .grant .ensures)
 
 decide-list-requires : tie.Need-decide-list-requires
 decide-list-requires c κs = omega (arith, pairs-most (now (c .before .before .before .before .before .before .before .before .before .before .before .before .before .args .list)), c .before .before .before .before .before .pairs .ensures)
-
-same-length-3 : tie.Need-same-length-3
-same-length-3 c = search needs
 
 returns-3 : tie.Need-returns-3
 unfolding waited
@@ -54,16 +33,16 @@ pub wait-spec : {M : Type 1} → statement M
 wait-spec =
     tie.close
     (tie.spec
-    wait-refusal-requires
-    same-length
+    (λ c κs. search needs)
+    (λ c. search needs)
     returns
-    get-requires
-    pairs-requires
-    flag-requires
+    (λ c κs. search needs)
+    (λ c κs. search needs)
+    (λ c κs. search needs)
     is-met-requires
     grant-requires
-    same-length-2
+    (λ c. search needs)
     returns-2
     decide-list-requires
-    same-length-3
+    (λ c. search needs)
     returns-3)

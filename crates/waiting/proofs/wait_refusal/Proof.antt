@@ -10,22 +10,13 @@ use borrow.Author.Needs.{needs}
 use Rattle.waiting.proofs.wait_refusal.Statement.{statement}
 use Rattle.waiting.proofs.wait_refusal.Tie as tie
 
-get-requires : tie.Need-get-requires
-get-requires c κs = search needs
-
 returns : tie.Need-returns
 unfolding waitRefusal
 returns c = simp (← (c .before .get .ensures), eq-eqb _ _ (c .if1 .taken))
 
-list-refusal-requires : tie.Need-list-refusal-requires
-list-refusal-requires c κs = search needs
-
 returns-2 : tie.Need-returns-2
 unfolding waitRefusal
 returns-2 c = simp (← (c .before .before .before .get .ensures), ne-eqb _ _ (c .before .before .if1 .left), ← (c .before .list-refusal .ensures), ne-eqb _ _ (c .if2 .taken))
-
-pairs-requires : tie.Need-pairs-requires
-pairs-requires c κs = search needs
 
 has-unknown-requires : tie.Need-has-unknown-requires
 has-unknown-requires c κs = omega (arith, pairs-most (now (c .before .before .before .before .before .before .before .args .list)), c .pairs .ensures)
@@ -57,11 +48,11 @@ pub wait-refusal-spec : {M : Type 1} → statement M
 wait-refusal-spec =
     tie.close
     (tie.spec
-    get-requires
+    (λ c κs. search needs)
     returns
-    list-refusal-requires
+    (λ c κs. search needs)
     returns-2
-    pairs-requires
+    (λ c κs. search needs)
     has-unknown-requires
     returns-3
     has-owned-requires

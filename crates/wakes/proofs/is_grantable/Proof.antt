@@ -7,18 +7,9 @@ use borrow.Author.Needs.{needs}
 use Rattle.wakes.proofs.is_grantable.Statement.{statement}
 use Rattle.wakes.proofs.is_grantable.Tie as tie
 
-count-of-requires : tie.Need-count-of-requires
-count-of-requires c κs = search needs
-
 returns : tie.Need-returns
 unfolding grantable
 returns c = simp (← (c .before .count-of .ensures), eq-eqb _ _ (c .if1 .taken))
-
-places-at-requires : tie.Need-places-at-requires
-places-at-requires c κs = search needs
-
-all-of-requires : tie.Need-all-of-requires
-all-of-requires c κs = search needs
 
 is-met-requires : tie.Need-is-met-requires
 is-met-requires c κs = omega (arith, count-most (now (c .before .before .before .before .before .args .w)) (c .before .before .before .before .before .args .id), c .before .before .before .count-of .ensures)
@@ -31,9 +22,9 @@ pub is-grantable-spec : {M : Type 1} → statement M
 is-grantable-spec =
     tie.close
     (tie.spec
-    count-of-requires
+    (λ c κs. search needs)
     returns
-    places-at-requires
-    all-of-requires
+    (λ c κs. search needs)
+    (λ c κs. search needs)
     is-met-requires
     returns-2)

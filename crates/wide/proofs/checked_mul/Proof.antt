@@ -3,9 +3,6 @@ use borrow.Author.Needs.{needs}
 use Rattle.wide.proofs.checked_mul.Statement.{statement}
 use Rattle.wide.proofs.checked_mul.Tie as tie
 
-product-requires : tie.Need-product-requires
-product-requires c κs = search needs
-
 returns : tie.Need-returns
 returns c = one-word _ _ _ (c .before .before .product .ensures) (c .if1 .taken) (c .before .struct-known .given .1 .0 .fits)
 
@@ -13,4 +10,4 @@ returns-2 : tie.Need-returns-2
 returns-2 c = two-words _ _ _ (c .before .before .product .ensures) (c .if1 .left)
 
 pub checked-mul-spec : {M : Type 1} → statement M
-checked-mul-spec = tie.close (tie.spec product-requires returns returns-2)
+checked-mul-spec = tie.close (tie.spec (λ c κs. search needs) returns returns-2)

@@ -29,12 +29,6 @@ add-t12 c = omega (arith, small _ _ (c .fits .a .fits) (c .fits .b .fits))
 add-t14 : tie.Need-add-t14
 add-t14 c = omega (arith, small _ _ (c .fits .a .fits) (c .fits .b .fits))
 
-mul-t16 : tie.Need-mul-t16
-mul-t16 c = search needs
-
-add-t18 : tie.Need-add-t18
-add-t18 c = search needs
-
 returns : tie.Need-returns
 returns c = product-is (2 ^ 32) (c .args .a) (c .args .b)
 
@@ -50,6 +44,6 @@ product-spec =
     mul-t10
     add-t12
     add-t14
-    mul-t16
-    add-t18
+    (λ c. search needs)
+    (λ c. search needs)
     returns)

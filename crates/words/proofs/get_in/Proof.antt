@@ -9,25 +9,13 @@ use Rattle.words.proofs.get_in.Reads as reads
 use Rattle.words.proofs.get_in.Lts as lts
 use Rattle.words.proofs.get.Reads as get-reads
 
--- src/lib.rt:29:8
-sub-if1 : tie.Need-sub-if1
-sub-if1 c = search needs
-
 -- src/lib.rt:30:9
 returns : tie.Need-returns
 returns c = sym (List·getD-eq-default (now (c .before .before .args .w)) 0 (omega (arith, c .before .before .good .0 .0)))
-
--- src/lib.rt:32:12
-add-get : tie.Need-add-get
-add-get c = search needs
-
--- src/lib.rt:32:5
-get-requires : tie.Need-get-requires
-get-requires c κs = search needs
 
 -- src/lib.rt:26:1
 returns-2 : tie.Need-returns-2
 returns-2 c = search needs
 
 pub get-in-spec : {M : Type 1} → statement M
-get-in-spec = tie.close (tie.spec sub-if1 returns add-get get-requires returns-2)
+get-in-spec = tie.close (tie.spec (λ c. search needs) returns (λ c. search needs) (λ c κs. search needs) returns-2)

@@ -8,29 +8,13 @@ use Rattle.words.proofs.put_in.Reads as reads
 use Rattle.words.proofs.put_in.Lts as lts
 use Rattle.words.proofs.put.Reads as put-reads
 
--- src/lib.rt:39:8
-sub-if1 : tie.Need-sub-if1
-sub-if1 c = search needs
-
 -- src/lib.rt:40:9
 returns : tie.Need-returns
 returns c = sym (set-out _ _ _ (omega (arith, c .before .before .good .0 .0)))
-
--- src/lib.rt:42:12
-add-put : tie.Need-add-put
-add-put c = search needs
-
--- src/lib.rt:42:5
-put-requires : tie.Need-put-requires
-put-requires c κs = search needs
-
--- src/lib.rt:36:1
-same-length : tie.Need-same-length
-same-length c = search needs
 
 -- src/lib.rt:36:1
 returns-2 : tie.Need-returns-2
 returns-2 c = search needs
 
 pub put-in-spec : {M : Type 1} → statement M
-put-in-spec = tie.close (tie.spec sub-if1 returns add-put put-requires same-length returns-2)
+put-in-spec = tie.close (tie.spec (λ c. search needs) returns (λ c. search needs) (λ c κs. search needs) (λ c. search needs) returns-2)

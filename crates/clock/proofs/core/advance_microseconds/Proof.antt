@@ -4,18 +4,9 @@ use Rattle.clock.proofs.FormLaws.{kept-out, let-in}
 use Rattle.clock.proofs.core.advance_microseconds.Statement.{statement}
 use Rattle.clock.proofs.core.advance_microseconds.Tie as tie
 
-in-form-requires : tie.Need-in-form-requires
-in-form-requires c κs = search needs
-
-refused-requires : tie.Need-refused-requires
-refused-requires c κs = search needs
-
 returns : tie.Need-returns
 unfolding advanceMicroseconds
 returns c = kept-out _ (c .before .before .in-form .ensures) _ (c .before .if1 .taken) (c .refused .ensures)
-
-advanced-microseconds-requires : tie.Need-advanced-microseconds-requires
-advanced-microseconds-requires c κs = search needs
 
 returns-2 : tie.Need-returns-2
 unfolding advanceMicroseconds
@@ -24,4 +15,4 @@ returns-2 c = let-in _ (c .before .before .in-form .ensures) (c .before .if1 .le
 pub advance-microseconds-spec : {M : Type 1} → statement M
 advance-microseconds-spec =
     tie.close
-    (tie.spec in-form-requires refused-requires returns advanced-microseconds-requires returns-2)
+    (tie.spec (λ c κs. search needs) (λ c κs. search needs) returns (λ c κs. search needs) returns-2)

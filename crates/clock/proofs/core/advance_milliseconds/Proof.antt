@@ -4,21 +4,9 @@ use Rattle.clock.proofs.FormLaws.{kept-out, let-in}
 use Rattle.clock.proofs.core.advance_milliseconds.Statement.{statement}
 use Rattle.clock.proofs.core.advance_milliseconds.Tie as tie
 
-in-form-requires : tie.Need-in-form-requires
-in-form-requires c κs = search needs
-
-refused-requires : tie.Need-refused-requires
-refused-requires c κs = search needs
-
 returns : tie.Need-returns
 unfolding advanceMilliseconds
 returns c = kept-out _ (c .before .before .in-form .ensures) _ (c .before .if1 .taken) (c .refused .ensures)
-
-mul-advanced-microseconds : tie.Need-mul-advanced-microseconds
-mul-advanced-microseconds c = search needs
-
-advanced-microseconds-requires : tie.Need-advanced-microseconds-requires
-advanced-microseconds-requires c κs = search needs
 
 returns-2 : tie.Need-returns-2
 unfolding advanceMilliseconds
@@ -28,9 +16,9 @@ pub advance-milliseconds-spec : {M : Type 1} → statement M
 advance-milliseconds-spec =
     tie.close
     (tie.spec
-    in-form-requires
-    refused-requires
+    (λ c κs. search needs)
+    (λ c κs. search needs)
     returns
-    mul-advanced-microseconds
-    advanced-microseconds-requires
+    (λ c. search needs)
+    (λ c κs. search needs)
     returns-2)

@@ -6,24 +6,9 @@ use Rattle.clock.proofs.AdvanceLaws.{too-many}
 use Rattle.clock.proofs.core.advanced_microseconds.Statement.{statement}
 use Rattle.clock.proofs.core.advanced_microseconds.Tie as tie
 
-checked-mul-requires : tie.Need-checked-mul-requires
-checked-mul-requires c κs = search needs
-
-enum-known-ticks : tie.Need-enum-known-ticks
-enum-known-ticks c = search needs
-
-enum-told : tie.Need-enum-told
-enum-told c = search needs
-
-refused-requires : tie.Need-refused-requires
-refused-requires c κs = search needs
-
 returns : tie.Need-returns
 unfolding advancedMicroseconds advanced
 returns c = simp (too-many (c .before .before .before .before .args .c) _ (overflow-is (sym (c .before .enum-told .given .1) ∙ c .before .before .before .checked-mul .ensures))) (c .refused .ensures)
-
-advanced-requires : tie.Need-advanced-requires
-advanced-requires c κs = search needs
 
 returns-2 : tie.Need-returns-2
 unfolding advancedMicroseconds
@@ -33,10 +18,10 @@ pub advanced-microseconds-spec : {M : Type 1} → statement M
 advanced-microseconds-spec =
     tie.close
     (tie.spec
-    checked-mul-requires
-    enum-known-ticks
-    enum-told
-    refused-requires
+    (λ c κs. search needs)
+    (λ c. search needs)
+    (λ c. search needs)
+    (λ c κs. search needs)
     returns
-    advanced-requires
+    (λ c κs. search needs)
     returns-2)

@@ -6,28 +6,13 @@ use Rattle.clock.proofs.CheckedLaws.{room, no-room, within}
 use Rattle.clock.proofs.core.advances.Statement.{statement}
 use Rattle.clock.proofs.core.advances.Tie as tie
 
-sub-if1 : tie.Need-sub-if1
-sub-if1 c = search needs
-
 returns : tie.Need-returns
 unfolding advances
 returns c = simp (no-room _ _ (c .before .before .fits .ticks .fits) (c .if1 .taken))
 
-cast-part : tie.Need-cast-part
-cast-part c = search needs
-
-sub-if2 : tie.Need-sub-if2
-sub-if2 c = search needs
-
 returns-2 : tie.Need-returns-2
 unfolding advances
 returns-2 c = simp (room _ _ (c .before .before .before .before .fits .ticks .fits) (c .before .before .if1 .left), no-room _ _ (c .before .before .before .before .fits .ticks .fits) (c .if2 .taken))
-
-add-result : tie.Need-add-result
-add-result c = search needs
-
-sub-result : tie.Need-sub-result
-sub-result c = search needs
 
 returns-3 : tie.Need-returns-3
 unfolding advances
@@ -37,4 +22,4 @@ returns-3 c = simp (room _ _ (c .before .before .before .before .before .fits .t
 pub advances-spec : {M : Type 1} → statement M
 advances-spec =
     tie.close
-    (tie.spec sub-if1 returns cast-part sub-if2 returns-2 add-result sub-result returns-3)
+    (tie.spec (λ c. search needs) returns (λ c. search needs) (λ c. search needs) returns-2 (λ c. search needs) (λ c. search needs) returns-3)

@@ -4,12 +4,6 @@ use Rattle.clock.proofs.FormLaws.{held, failed, form-of, kept-out, let-
 use Rattle.clock.proofs.core.flush_cycles.Statement.{statement}
 use Rattle.clock.proofs.core.flush_cycles.Tie as tie
 
-in-form-requires : tie.Need-in-form-requires
-in-form-requires c κs = search needs
-
-refused-requires : tie.Need-refused-requires
-refused-requires c κs = search needs
-
 returns : tie.Need-returns
 unfolding flushCycles
 returns c = kept-out _ (c .before .before .in-form .ensures) _ (c .before .if1 .taken) (c .refused .ensures)
@@ -17,18 +11,12 @@ returns c = kept-out _ (c .before .before .in-form .ensures) _ (c .before .if1 .
 flushes-requires : tie.Need-flushes-requires
 flushes-requires c κs = form-of _ (c .before .in-form .ensures) (c .if1 .left) .mhz-least
 
-refused-requires-2 : tie.Need-refused-requires-2
-refused-requires-2 c κs = search needs
-
 returns-2 : tie.Need-returns-2
 unfolding flushCycles
 returns-2 c = let-in _ (c .before .before .before .before .in-form .ensures) (c .before .before .before .if1 .left) (simp (failed (c .before .before .flushes .ensures) (c .before .if2 .taken)) (c .refused2 .ensures))
 
 flushed-requires : tie.Need-flushed-requires
 flushed-requires c κs = (form-of _ (c .before .before .before .in-form .ensures) (c .before .before .if1 .left) .mhz-least, held (c .before .flushes .ensures) (c .if2 .left))
-
-done-requires : tie.Need-done-requires
-done-requires c κs = search needs
 
 returns-3 : tie.Need-returns-3
 unfolding flushCycles
@@ -38,12 +26,12 @@ pub flush-cycles-spec : {M : Type 1} → statement M
 flush-cycles-spec =
     tie.close
     (tie.spec
-    in-form-requires
-    refused-requires
+    (λ c κs. search needs)
+    (λ c κs. search needs)
     returns
     flushes-requires
-    refused-requires-2
+    (λ c κs. search needs)
     returns-2
     flushed-requires
-    done-requires
+    (λ c κs. search needs)
     returns-3)

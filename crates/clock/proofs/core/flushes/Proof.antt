@@ -6,27 +6,9 @@ use Rattle.clock.proofs.AdvanceLaws.{too-many}
 use Rattle.clock.proofs.core.flushes.Statement.{statement}
 use Rattle.clock.proofs.core.flushes.Tie as tie
 
-cast-checked-mul : tie.Need-cast-checked-mul
-cast-checked-mul c = search needs
-
-div-checked-mul : tie.Need-div-checked-mul
-div-checked-mul c = search needs
-
-checked-mul-requires : tie.Need-checked-mul-requires
-checked-mul-requires c κs = search needs
-
-enum-known-ticks : tie.Need-enum-known-ticks
-enum-known-ticks c = search needs
-
-enum-told : tie.Need-enum-told
-enum-told c = search needs
-
 returns : tie.Need-returns
 unfolding flushes flushTicks
 returns c = sym (too-many _ _ (overflow-is (sym (c .enum-told .given .1) ∙ c .before .before .checked-mul .ensures)))
-
-advances-requires : tie.Need-advances-requires
-advances-requires c κs = search needs
 
 returns-2 : tie.Need-returns-2
 unfolding flushes flushTicks
@@ -36,11 +18,11 @@ pub flushes-spec : {M : Type 1} → statement M
 flushes-spec =
     tie.close
     (tie.spec
-    cast-checked-mul
-    div-checked-mul
-    checked-mul-requires
-    enum-known-ticks
-    enum-told
+    (λ c. search needs)
+    (λ c. search needs)
+    (λ c κs. search needs)
+    (λ c. search needs)
+    (λ c. search needs)
     returns
-    advances-requires
+    (λ c κs. search needs)
     returns-2)

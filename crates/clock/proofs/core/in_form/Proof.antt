@@ -19,13 +19,10 @@ returns-3 : tie.Need-returns-3
 unfolding inForm
 returns-3 c = simp (lt-ltb _ _ (c .before .before .before .before .if1 .left), le-leb _ _ (c .before .before .if2 .left), lt-leb _ _ (c .if3 .taken))
 
-in-range-requires : tie.Need-in-range-requires
-in-range-requires c κs = search needs
-
 returns-4 : tie.Need-returns-4
 unfolding inForm
 returns-4 c = let offset : SFits w32 (c .before .before .before .before .before .before .before .before .args .c .«utc_offset_minutes») = record { sfits = c .before .struct-told .given .1 .1 .1 .0 .1 } in
     simp (lt-ltb _ _ (c .before .before .before .before .before .before .if1 .left), le-leb _ _ (c .before .before .before .before .if2 .left), le-leb _ _ (c .before .before .if3 .left), c .in-range .ensures, toZ-ofZ offset)
 
 pub in-form-spec : {M : Type 1} → statement M
-in-form-spec = tie.close (tie.spec returns returns-2 returns-3 in-range-requires returns-4)
+in-form-spec = tie.close (tie.spec returns returns-2 returns-3 (λ c κs. search needs) returns-4)

@@ -17,12 +17,9 @@ returns-3 : tie.Need-returns-3
 unfolding inRange
 returns-3 c = simp (le-leb _ _ (c .before .before .if1 .left), le-leb _ _ (c .before .if2 .left), lt-leb _ _ (c .if3 .taken))
 
-offset-in-range-requires : tie.Need-offset-in-range-requires
-offset-in-range-requires c κs = search needs
-
 returns-4 : tie.Need-returns-4
 unfolding inRange
 returns-4 c = simp (le-leb _ _ (c .before .before .before .if1 .left), le-leb _ _ (c .before .before .if2 .left), le-leb _ _ (c .before .if3 .left), c .offset-in-range .ensures, toZ-ofZ (c .before .before .before .before .fits .utc-offset-minutes))
 
 pub in-range-spec : {M : Type 1} → statement M
-in-range-spec = tie.close (tie.spec returns returns-2 returns-3 offset-in-range-requires returns-4)
+in-range-spec = tie.close (tie.spec returns returns-2 returns-3 (λ c κs. search needs) returns-4)

@@ -7,37 +7,16 @@ use Rattle.clock.proofs.FormLaws.{held, failed, form-of, kept-out, let-
 use Rattle.clock.proofs.core.instruction.Statement.{statement}
 use Rattle.clock.proofs.core.instruction.Tie as tie
 
-in-form-requires : tie.Need-in-form-requires
-in-form-requires c κs = search needs
-
-refused-requires : tie.Need-refused-requires
-refused-requires c κs = search needs
-
 returns : tie.Need-returns
 unfolding instruction
 returns c = kept-out _ (c .before .before .in-form .ensures) _ (c .before .if1 .taken) (c .refused .ensures)
-
-sub-if2 : tie.Need-sub-if2
-sub-if2 c = search needs
-
-refused-requires-2 : tie.Need-refused-requires-2
-refused-requires-2 c κs = search needs
 
 returns-2 : tie.Need-returns-2
 unfolding instruction instructed
 returns-2 c = let-in _ (c .before .before .before .before .in-form .ensures) (c .before .before .before .if1 .left) (simp (no-room _ 100 (lit< tt) (c .before .if2 .taken)) (c .refused2 .ensures))
 
-add-pending : tie.Need-add-pending
-add-pending c = search needs
-
-with-cycles-requires : tie.Need-with-cycles-requires
-with-cycles-requires c κs = search needs
-
 flushes-requires : tie.Need-flushes-requires
 flushes-requires c κs = simp (c .with-cycles .ensures) (form-of _ (c .before .before .before .before .before .before .before .in-form .ensures) (c .before .before .before .before .before .before .if1 .left) .mhz-least)
-
-refused-requires-3 : tie.Need-refused-requires-3
-refused-requires-3 c κs = search needs
 
 returns-3 : tie.Need-returns-3
 unfolding instruction instructed
@@ -47,9 +26,6 @@ returns-3 c = let-in _ (c .before .before .before .before .before .before .befor
 flushed-requires : tie.Need-flushed-requires
 flushed-requires c κs = (simp (c .before .before .with-cycles .ensures) (form-of _ (c .before .before .before .before .before .before .before .before .before .in-form .ensures) (c .before .before .before .before .before .before .before .before .if1 .left) .mhz-least), held (c .before .flushes .ensures) (c .if4 .left))
 
-done-requires : tie.Need-done-requires
-done-requires c κs = search needs
-
 returns-4 : tie.Need-returns-4
 unfolding instruction instructed
 returns-4 c = let-in _ (c .before .before .before .before .before .before .before .before .before .before .before .in-form .ensures) (c .before .before .before .before .before .before .before .before .before .before .if1 .left)
@@ -57,12 +33,6 @@ returns-4 c = let-in _ (c .before .before .before .before .before .before .befor
 
 sub-with-cycles : tie.Need-sub-with-cycles
 sub-with-cycles c = form-of _ (c .before .before .before .before .before .before .before .in-form .ensures) (c .before .before .before .before .before .before .if1 .left) .countdown-least
-
-with-cycles-requires-2 : tie.Need-with-cycles-requires-2
-with-cycles-requires-2 c κs = search needs
-
-done-requires-2 : tie.Need-done-requires-2
-done-requires-2 c κs = search needs
 
 returns-5 : tie.Need-returns-5
 unfolding instruction instructed
@@ -72,21 +42,21 @@ pub instruction-spec : {M : Type 1} → statement M
 instruction-spec =
     tie.close
     (tie.spec
-    in-form-requires
-    refused-requires
+    (λ c κs. search needs)
+    (λ c κs. search needs)
     returns
-    sub-if2
-    refused-requires-2
+    (λ c. search needs)
+    (λ c κs. search needs)
     returns-2
-    add-pending
-    with-cycles-requires
+    (λ c. search needs)
+    (λ c κs. search needs)
     flushes-requires
-    refused-requires-3
+    (λ c κs. search needs)
     returns-3
     flushed-requires
-    done-requires
+    (λ c κs. search needs)
     returns-4
     sub-with-cycles
-    with-cycles-requires-2
-    done-requires-2
+    (λ c κs. search needs)
+    (λ c κs. search needs)
     returns-5)

@@ -6,9 +6,6 @@ use Rattle.clock.proofs.AdvanceLaws.{advance-facts}
 use Rattle.clock.proofs.core.moved.Statement.{statement}
 use Rattle.clock.proofs.core.moved.Tie as tie
 
-cast-fraction : tie.Need-cast-fraction
-cast-fraction c = search needs
-
 add-fraction : tie.Need-add-fraction
 add-fraction c = record { fits = advance-facts _ _ (c .before .pre) .fraction-fits }
 
@@ -18,13 +15,10 @@ add-after c = record { fits = advance-facts _ _ (c .before .before .pre) .utc-fi
 add-after-2 : tie.Need-add-after-2
 add-after-2 c = omega (arith, advance-facts _ _ (c .before .before .before .pre) .uptime-most)
 
-cast-after : tie.Need-cast-after
-cast-after c = search needs
-
 returns : tie.Need-returns
 unfolding moved
 returns c = refl
 
 pub moved-spec : {M : Type 1} → statement M
 moved-spec =
-    tie.close (tie.spec cast-fraction add-fraction add-after add-after-2 cast-after returns)
+    tie.close (tie.spec (λ c. search needs) add-fraction add-after add-after-2 (λ c. search needs) returns)

@@ -4,21 +4,12 @@ use Rattle.clock.proofs.FormLaws.{held, failed, form-of, kept-out, let-
 use Rattle.clock.proofs.core.observe.Statement.{statement}
 use Rattle.clock.proofs.core.observe.Tie as tie
 
-in-form-requires : tie.Need-in-form-requires
-in-form-requires c κs = search needs
-
-refused-requires : tie.Need-refused-requires
-refused-requires c κs = search needs
-
 returns : tie.Need-returns
 unfolding observe
 returns c = kept-out _ (c .before .before .in-form .ensures) _ (c .before .if1 .taken) (c .refused .ensures)
 
 flushes-requires : tie.Need-flushes-requires
 flushes-requires c κs = form-of _ (c .before .in-form .ensures) (c .if1 .left) .mhz-least
-
-refused-requires-2 : tie.Need-refused-requires-2
-refused-requires-2 c κs = search needs
 
 returns-2 : tie.Need-returns-2
 unfolding observe
@@ -27,21 +18,12 @@ returns-2 c = let-in _ (c .before .before .before .before .in-form .ensures) (c 
 flushed-requires : tie.Need-flushed-requires
 flushed-requires c κs = (form-of _ (c .before .before .before .in-form .ensures) (c .before .before .if1 .left) .mhz-least, held (c .before .flushes .ensures) (c .if2 .left))
 
-advances-requires : tie.Need-advances-requires
-advances-requires c κs = search needs
-
-refused-requires-3 : tie.Need-refused-requires-3
-refused-requires-3 c κs = search needs
-
 returns-3 : tie.Need-returns-3
 unfolding observe
 returns-3 c = let-in _ (c .before .before .before .before .before .before .before .in-form .ensures) (c .before .before .before .before .before .before .if1 .left) (simp (held (c .before .before .before .before .before .flushes .ensures) (c .before .before .before .before .if2 .left), ← (c .before .before .before .flushed .ensures), failed (c .before .before .advances .ensures) (c .before .if3 .taken)) (c .refused3 .ensures))
 
 moved-requires : tie.Need-moved-requires
 moved-requires c κs = held (c .before .advances .ensures) (c .if3 .left)
-
-done-requires : tie.Need-done-requires
-done-requires c κs = search needs
 
 returns-4 : tie.Need-returns-4
 unfolding observe
@@ -51,16 +33,16 @@ pub observe-spec : {M : Type 1} → statement M
 observe-spec =
     tie.close
     (tie.spec
-    in-form-requires
-    refused-requires
+    (λ c κs. search needs)
+    (λ c κs. search needs)
     returns
     flushes-requires
-    refused-requires-2
+    (λ c κs. search needs)
     returns-2
     flushed-requires
-    advances-requires
-    refused-requires-3
+    (λ c κs. search needs)
+    (λ c κs. search needs)
     returns-3
     moved-requires
-    done-requires
+    (λ c κs. search needs)
     returns-4)

@@ -7,9 +7,6 @@ use Rattle.clock.proofs.CheckedLaws.{room, no-room}
 use Rattle.clock.proofs.core.qpc.Statement.{statement}
 use Rattle.clock.proofs.core.qpc.Tie as tie
 
-in-form-requires : tie.Need-in-form-requires
-in-form-requires c κs = search needs
-
 returns : tie.Need-returns
 unfolding qpc
 returns c = read-out _ (c .before .in-form .ensures) _ (c .if1 .taken)
@@ -17,18 +14,9 @@ returns c = read-out _ (c .before .in-form .ensures) _ (c .if1 .taken)
 mul-whole : tie.Need-mul-whole
 mul-whole c = omega (arith, form-of _ (c .before .before .in-form .ensures) (c .before .if1 .left) .uptime-most)
 
-cast-part : tie.Need-cast-part
-cast-part c = search needs
-
-sub-if2 : tie.Need-sub-if2
-sub-if2 c = search needs
-
 returns-2 : tie.Need-returns-2
 unfolding qpc
 returns-2 c = read-in _ (c .before .before .before .before .in-form .ensures) (c .before .before .before .if1 .left) (simp (no-room (c .before .before .before .before .before .args .c .«uptime_ms» * 10000) (c .before .before .before .before .before .args .c .«submillisecond_100ns») (omega arith) (c .if2 .taken)))
-
-add-t7 : tie.Need-add-t7
-add-t7 c = search needs
 
 returns-3 : tie.Need-returns-3
 unfolding qpc
@@ -37,4 +25,4 @@ returns-3 c = read-in _ (c .before .before .before .before .in-form .ensures) (c
 pub qpc-spec : {M : Type 1} → statement M
 qpc-spec =
     tie.close
-    (tie.spec in-form-requires returns mul-whole cast-part sub-if2 returns-2 add-t7 returns-3)
+    (tie.spec (λ c κs. search needs) returns mul-whole (λ c. search needs) (λ c. search needs) returns-2 (λ c. search needs) returns-3)

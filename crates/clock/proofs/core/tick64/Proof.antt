@@ -5,19 +5,13 @@ use Rattle.clock.proofs.FormLaws.{read-out, read-in}
 use Rattle.clock.proofs.core.tick64.Statement.{statement}
 use Rattle.clock.proofs.core.tick64.Tie as tie
 
-in-form-requires : tie.Need-in-form-requires
-in-form-requires c κs = search needs
-
 returns : tie.Need-returns
 unfolding tick64
 returns c = read-out _ (c .before .in-form .ensures) _ (c .if1 .taken)
-
-mul-t6 : tie.Need-mul-t6
-mul-t6 c = search needs
 
 returns-2 : tie.Need-returns-2
 unfolding tick64
 returns-2 c = read-in _ (c .before .before .in-form .ensures) (c .before .if1 .left) refl
 
 pub tick64-spec : {M : Type 1} → statement M
-tick64-spec = tie.close (tie.spec in-form-requires returns mul-t6 returns-2)
+tick64-spec = tie.close (tie.spec (λ c κs. search needs) returns (λ c. search needs) returns-2)

@@ -3,18 +3,6 @@ use Rattle.clock.specs.Clock.{tsc, onReading}
 use Rattle.clock.proofs.core.tsc.Statement.{statement}
 use Rattle.clock.proofs.core.tsc.Tie as tie
 
-qpc-requires : tie.Need-qpc-requires
-qpc-requires c κs = search needs
-
-enum-known-why : tie.Need-enum-known-why
-enum-known-why c = search needs
-
-enum-known-ticks : tie.Need-enum-known-ticks
-enum-known-ticks c = search needs
-
-cycles-at-requires : tie.Need-cycles-at-requires
-cycles-at-requires c κs = search needs
-
 returns : tie.Need-returns
 unfolding tsc onReading
 returns c = simp (← (c .before .before .before .qpc .ensures), c .before .why .given .1)
@@ -26,4 +14,4 @@ returns-2 c = simp (← (c .before .before .before .before .qpc .ensures), c .be
 pub tsc-spec : {M : Type 1} → statement M
 tsc-spec =
     tie.close
-    (tie.spec qpc-requires enum-known-why enum-known-ticks cycles-at-requires returns returns-2)
+    (tie.spec (λ c κs. search needs) (λ c. search needs) (λ c. search needs) (λ c κs. search needs) returns returns-2)

@@ -17,19 +17,10 @@ returns-3 : tie.Need-returns-3
 unfolding takes
 returns-3 c = simp (le-leb _ _ (c .before .before .if1 .left), le-leb _ _ (c .before .if2 .left), too-large _ (c .before .before .before .args .b) (c .if3 .taken))
 
-cast-digit : tie.Need-cast-digit
-cast-digit c = search needs
-
-mul-result : tie.Need-mul-result
-mul-result c = search needs
-
-sub-result : tie.Need-sub-result
-sub-result c = search needs
-
 returns-4 : tie.Need-returns-4
 unfolding takes
 returns-4 c = simp (le-leb _ _ (c .before .before .if1 .left), le-leb _ _ (c .before .if2 .left)) (room _ (c .before .before .before .args .b) (c .if3 .left))
 
 pub takes-spec : {M : Type 1} → statement M
 takes-spec =
-    tie.close (tie.spec returns returns-2 returns-3 cast-digit mul-result sub-result returns-4)
+    tie.close (tie.spec returns returns-2 returns-3 (λ c. search needs) (λ c. search needs) (λ c. search needs) returns-4)

@@ -4,18 +4,6 @@ use borrow.Author.Needs.{needs}
 use Rattle.dispatcher.proofs.dispatch.note.Statement.{statement}
 use Rattle.dispatcher.proofs.dispatch.note.Tie as tie
 
-is-waiting-requires : tie.Need-is-waiting-requires
-is-waiting-requires c κs = search needs
-
-put-requires : tie.Need-put-requires
-put-requires c κs = search needs
-
-add-result : tie.Need-add-result
-add-result c = search needs
-
-same-length : tie.Need-same-length
-same-length c = search needs
-
 returns : tie.Need-returns
 unfolding noted notedTo
 returns c = (simp (sym (c .before .before .before .before .before .is-waiting .ensures) ∙ c .before .before .before .before .if1 .taken), simp (sym (c .before .before .before .before .before .is-waiting .ensures) ∙ c .before .before .before .before .if1 .taken) (cc))
@@ -26,4 +14,4 @@ returns-2 c = (simp (sym (c .before .is-waiting .ensures) ∙ c .if1 .left), sim
 
 pub note-spec : {M : Type 1} → statement M
 note-spec =
-    tie.close (tie.spec is-waiting-requires put-requires add-result same-length returns returns-2)
+    tie.close (tie.spec (λ c κs. search needs) (λ c κs. search needs) (λ c. search needs) (λ c. search needs) returns returns-2)

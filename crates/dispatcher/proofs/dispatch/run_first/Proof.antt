@@ -4,27 +4,6 @@ use borrow.Author.Needs.{needs}
 use Rattle.dispatcher.proofs.dispatch.run_first.Statement.{statement}
 use Rattle.dispatcher.proofs.dispatch.run_first.Tie as tie
 
-ready-chain-requires : tie.Need-ready-chain-requires
-ready-chain-requires c κs = search needs
-
-first-of-requires : tie.Need-first-of-requires
-first-of-requires c κs = search needs
-
-read-thread-requires : tie.Need-read-thread-requires
-read-thread-requires c κs = search needs
-
-unplace-requires : tie.Need-unplace-requires
-unplace-requires c κs = search needs
-
-write-thread-requires : tie.Need-write-thread-requires
-write-thread-requires c κs = search needs
-
-put-requires : tie.Need-put-requires
-put-requires c κs = search needs
-
-same-length : tie.Need-same-length
-same-length c = search needs
-
 returns : tie.Need-returns
 returns c = run-steps (now (c .before .before .before .before .before .before .before .before .before .before .before .before .before .before .before .before .before .before .args .w)) (c .before .before .before .before .before .before .before .before .before .before .before .before .before .before .before .before .before .before .args .p) (c .before .before .before .before .before .before .before .before .before .before .before .before .before .before .before .ready-chain .result) (c .before .before .before .before .before .before .before .before .before .before .before .before .before .before .first-of .result) (c .before .before .before .before .before .before .before .before .before .before .before .before .read-thread .result) (c .before .before .before .before .before .before .before .before .before .before .unplace .last .0) (c .before .before .before .before .before .before .write-thread .last .0) (c .before .before .put .last .0) (c .before .before .before .before .before .before .before .before .before .before .before .before .before .before .before .ready-chain .ensures) (c .before .before .before .before .before .before .before .before .before .before .before .before .before .before .first-of .ensures) (c .before .before .before .before .before .before .before .before .before .before .before .before .read-thread .ensures) (c .before .before .before .before .before .before .before .before .before .before .unplace .ensures) (c .before .before .before .before .before .before .write-thread .ensures) (c .before .before .put .ensures)
 
@@ -32,11 +11,11 @@ pub run-first-spec : {M : Type 1} → statement M
 run-first-spec =
     tie.close
     (tie.spec
-    ready-chain-requires
-    first-of-requires
-    read-thread-requires
-    unplace-requires
-    write-thread-requires
-    put-requires
-    same-length
+    (λ c κs. search needs)
+    (λ c κs. search needs)
+    (λ c κs. search needs)
+    (λ c κs. search needs)
+    (λ c κs. search needs)
+    (λ c κs. search needs)
+    (λ c. search needs)
     returns)

@@ -4,12 +4,6 @@ use borrow.Author.Needs.{needs}
 use Rattle.dispatcher.proofs.read.thread.Statement.{statement}
 use Rattle.dispatcher.proofs.read.thread.Tie as tie
 
-is-known-requires : tie.Need-is-known-requires
-is-known-requires c κs = search needs
-
-view-requires : tie.Need-view-requires
-view-requires c κs = search needs
-
 returns : tie.Need-returns
 unfolding threadRead
 returns c = simp (sym (c .before .before .is-known .ensures) ∙ c .before .if1 .taken) (cc)
@@ -19,4 +13,4 @@ unfolding threadRead
 returns-2 c = simp (sym (c .before .is-known .ensures) ∙ c .if1 .left)
 
 pub thread-spec : {M : Type 1} → statement M
-thread-spec = tie.close (tie.spec is-known-requires view-requires returns returns-2)
+thread-spec = tie.close (tie.spec (λ c κs. search needs) (λ c κs. search needs) returns returns-2)

@@ -4,15 +4,6 @@ use borrow.Author.Needs.{needs}
 use Rattle.dispatcher.proofs.read.wait_word.Statement.{statement}
 use Rattle.dispatcher.proofs.read.wait_word.Tie as tie
 
-is-waiting-requires : tie.Need-is-waiting-requires
-is-waiting-requires c κs = search needs
-
-thread-at-requires : tie.Need-thread-at-requires
-thread-at-requires c κs = search needs
-
-get-in-requires : tie.Need-get-in-requires
-get-in-requires c κs = search needs
-
 returns : tie.Need-returns
 unfolding waitWord
 returns c = simp (sym (c .before .before .before .is-waiting .ensures) ∙ c .before .before .if1 .taken) (cc)
@@ -23,4 +14,4 @@ returns-2 c = simp (sym (c .before .is-waiting .ensures) ∙ c .if1 .left)
 
 pub wait-word-spec : {M : Type 1} → statement M
 wait-word-spec =
-    tie.close (tie.spec is-waiting-requires thread-at-requires get-in-requires returns returns-2)
+    tie.close (tie.spec (λ c κs. search needs) (λ c κs. search needs) (λ c κs. search needs) returns returns-2)

@@ -4,12 +4,6 @@ use borrow.Author.Needs.{needs}
 use Rattle.dispatcher.proofs.read.waited_count.Statement.{statement}
 use Rattle.dispatcher.proofs.read.waited_count.Tie as tie
 
-is-waiting-requires : tie.Need-is-waiting-requires
-is-waiting-requires c κs = search needs
-
-count-of-requires : tie.Need-count-of-requires
-count-of-requires c κs = search needs
-
 returns : tie.Need-returns
 unfolding waitedCount
 returns c = simp (sym (c .before .before .is-waiting .ensures) ∙ c .before .if1 .taken) (cc)
@@ -19,4 +13,4 @@ unfolding waitedCount
 returns-2 c = simp (sym (c .before .is-waiting .ensures) ∙ c .if1 .left)
 
 pub waited-count-spec : {M : Type 1} → statement M
-waited-count-spec = tie.close (tie.spec is-waiting-requires count-of-requires returns returns-2)
+waited-count-spec = tie.close (tie.spec (λ c κs. search needs) (λ c κs. search needs) returns returns-2)

@@ -8,22 +8,13 @@ use borrow.Author.Needs.{needs}
 use Rattle.dispatcher.proofs.read.waited_object.Statement.{statement}
 use Rattle.dispatcher.proofs.read.waited_object.Tie as tie
 
-is-known-requires : tie.Need-is-known-requires
-is-known-requires c κs = search needs
-
 returns : tie.Need-returns
 unfolding waitedObject
 returns c = simp (sym (c .before .is-known .ensures) ∙ not-true _ (c .if1 .taken))
 
-waited-count-requires : tie.Need-waited-count-requires
-waited-count-requires c κs = search needs
-
 returns-2 : tie.Need-returns-2
 unfolding waitedObject
 returns-2 c = simp (sym (c .before .before .before .is-known .ensures) ∙ not-false _ (c .before .before .if1 .left), ← (c .before .waited-count .ensures), le-leb _ _ (c .if2 .taken))
-
-places-at-requires : tie.Need-places-at-requires
-places-at-requires c κs = search needs
 
 kind-in-requires : tie.Need-kind-in-requires
 kind-in-requires c κs = omega (arith, waited-most (now (c .before .before .before .before .before .before .args .w)) (c .before .before .before .before .before .before .args .id), c .before .before .waited-count .ensures)
@@ -39,11 +30,11 @@ pub waited-object-spec : {M : Type 1} → statement M
 waited-object-spec =
     tie.close
     (tie.spec
-    is-known-requires
+    (λ c κs. search needs)
     returns
-    waited-count-requires
+    (λ c κs. search needs)
     returns-2
-    places-at-requires
+    (λ c κs. search needs)
     kind-in-requires
     key-in-requires
     returns-3)

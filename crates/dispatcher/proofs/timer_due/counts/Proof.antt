@@ -4,29 +4,17 @@ use borrow.Author.Needs.{needs}
 use Rattle.dispatcher.proofs.timer_due.counts.Statement.{statement}
 use Rattle.dispatcher.proofs.timer_due.counts.Tie as tie
 
-get-in-requires : tie.Need-get-in-requires
-get-in-requires c κs = search needs
-
 returns : tie.Need-returns
 unfolding timerCounts
 returns c = simp (← (c .before .get-in .ensures), ne-eqb _ _ (c .if1 .taken))
-
-get-in-requires-2 : tie.Need-get-in-requires-2
-get-in-requires-2 c κs = search needs
 
 returns-2 : tie.Need-returns-2
 unfolding timerCounts
 returns-2 c = simp (← (c .before .before .before .get-in .ensures), eq-eqb _ _ (c .before .before .if1 .left), ← (c .before .get-in2 .ensures), eq-eqb _ _ (c .if2 .taken))
 
-get-in-requires-3 : tie.Need-get-in-requires-3
-get-in-requires-3 c κs = search needs
-
 returns-3 : tie.Need-returns-3
 unfolding timerCounts
 returns-3 c = simp (← (c .before .before .before .before .before .get-in .ensures), eq-eqb _ _ (c .before .before .before .before .if1 .left), ← (c .before .before .before .get-in2 .ensures), ne-eqb _ _ (c .before .before .if2 .left), ← (c .before .get-in3 .ensures), ne-eqb _ _ (c .if3 .taken))
-
-is-awaited-requires : tie.Need-is-awaited-requires
-is-awaited-requires c κs = search needs
 
 returns-4 : tie.Need-returns-4
 unfolding timerCounts
@@ -36,11 +24,11 @@ pub counts-spec : {M : Type 1} → statement M
 counts-spec =
     tie.close
     (tie.spec
-    get-in-requires
+    (λ c κs. search needs)
     returns
-    get-in-requires-2
+    (λ c κs. search needs)
     returns-2
-    get-in-requires-3
+    (λ c κs. search needs)
     returns-3
-    is-awaited-requires
+    (λ c κs. search needs)
     returns-4)

@@ -4,15 +4,6 @@ use borrow.Author.Needs.{needs}
 use Rattle.dispatcher.proofs.timer_due.due_with.Statement.{statement}
 use Rattle.dispatcher.proofs.timer_due.due_with.Tie as tie
 
-counts-requires : tie.Need-counts-requires
-counts-requires c κs = search needs
-
-get-in-requires : tie.Need-get-in-requires
-get-in-requires c κs = search needs
-
-sooner-requires : tie.Need-sooner-requires
-sooner-requires c κs = search needs
-
 returns : tie.Need-returns
 unfolding dueWith
 returns c = simp (sym (c .before .before .before .counts .ensures) ∙ c .before .before .if1 .taken) (cc)
@@ -23,4 +14,4 @@ returns-2 c = simp (sym (c .before .counts .ensures) ∙ c .if1 .left)
 
 pub due-with-spec : {M : Type 1} → statement M
 due-with-spec =
-    tie.close (tie.spec counts-requires get-in-requires sooner-requires returns returns-2)
+    tie.close (tie.spec (λ c κs. search needs) (λ c κs. search needs) (λ c κs. search needs) returns returns-2)

@@ -8,21 +8,9 @@ use borrow.Author.Needs.{needs}
 use Rattle.dispatcher.proofs.timer_due.next_time.Statement.{statement}
 use Rattle.dispatcher.proofs.timer_due.next_time.Tie as tie
 
-soonest-requires : tie.Need-soonest-requires
-soonest-requires c κs = search needs
-
-waiters-chain-requires : tie.Need-waiters-chain-requires
-waiters-chain-requires c κs = search needs
-
-first-of-requires : tie.Need-first-of-requires
-first-of-requires c κs = search needs
-
 returns : tie.Need-returns
 unfolding nextTime
 returns c = let e : firstOf (now (c .before .before .before .before .before .args .w)) waitersChain ≡ 0 = cc in simp (eq-eqb _ _ e) (cc)
-
-soonest-timer-requires : tie.Need-soonest-timer-requires
-soonest-timer-requires c κs = search needs
 
 returns-2 : tie.Need-returns-2
 unfolding nextTime
@@ -32,9 +20,9 @@ pub next-time-spec : {M : Type 1} → statement M
 next-time-spec =
     tie.close
     (tie.spec
-    soonest-requires
-    waiters-chain-requires
-    first-of-requires
+    (λ c κs. search needs)
+    (λ c κs. search needs)
+    (λ c κs. search needs)
     returns
-    soonest-timer-requires
+    (λ c κs. search needs)
     returns-2)

@@ -6,12 +6,6 @@ use borrow.Author.Needs.{needs}
 use Rattle.dpcs.proofs.record.queue_chain.Statement.{statement}
 use Rattle.dpcs.proofs.record.queue_chain.Tie as tie
 
-dpcs-base-requires : tie.Need-dpcs-base-requires
-dpcs-base-requires c κs = search needs
-
-cast-t3 : tie.Need-cast-t3
-cast-t3 c = search needs
-
 sub-t4 : tie.Need-sub-t4
 sub-t4 c = omega (arith, base-least (now (c .before .before .args .w)), c .dpcs-base .ensures)
 
@@ -23,4 +17,4 @@ unfolding queueChain
 returns c = cc
 
 pub queue-chain-spec : {M : Type 1} → statement M
-queue-chain-spec = tie.close (tie.spec dpcs-base-requires cast-t3 sub-t4 cast-t5 returns)
+queue-chain-spec = tie.close (tie.spec (λ c κs. search needs) (λ c. search needs) sub-t4 cast-t5 returns)

@@ -8,38 +8,17 @@ use borrow.Author.Needs.{needs}
 use Rattle.expiry.proofs.check.is_own.Statement.{statement}
 use Rattle.expiry.proofs.check.is_own.Tie as tie
 
-get-in-requires : tie.Need-get-in-requires
-get-in-requires c κs = search needs
-
 returns : tie.Need-returns
 unfolding isOwn
 returns c = simp (← (c .before .get-in .ensures), ne-eqb _ _ (c .if1 .taken))
-
-get-in-requires-2 : tie.Need-get-in-requires-2
-get-in-requires-2 c κs = search needs
-
-get-in-requires-3 : tie.Need-get-in-requires-3
-get-in-requires-3 c κs = search needs
 
 returns-2 : tie.Need-returns-2
 unfolding isOwn
 returns-2 c = simp (← (c .before .before .before .before .get-in .ensures), eq-eqb _ _ (c .before .before .before .if1 .left), ← (c .before .before .get-in2 .ensures), ← (c .before .get-in3 .ensures), ne-eqb _ _ (c .if2 .taken))
 
-get-in-requires-4 : tie.Need-get-in-requires-4
-get-in-requires-4 c κs = search needs
-
-get-in-requires-5 : tie.Need-get-in-requires-5
-get-in-requires-5 c κs = search needs
-
 returns-3 : tie.Need-returns-3
 unfolding isOwn
 returns-3 c = simp (← (c .before .before .before .before .before .before .before .get-in .ensures), eq-eqb _ _ (c .before .before .before .before .before .before .if1 .left), ← (c .before .before .before .before .before .get-in2 .ensures), ← (c .before .before .before .before .get-in3 .ensures), eq-eqb _ _ (c .before .before .before .if2 .left), ← (c .before .before .get-in4 .ensures), ← (c .before .get-in5 .ensures), ne-eqb _ _ (c .if3 .taken))
-
-get-in-requires-6 : tie.Need-get-in-requires-6
-get-in-requires-6 c κs = search needs
-
-get-in-requires-7 : tie.Need-get-in-requires-7
-get-in-requires-7 c κs = search needs
 
 returns-4 : tie.Need-returns-4
 unfolding isOwn
@@ -51,14 +30,14 @@ pub is-own-spec : {M : Type 1} → statement M
 is-own-spec =
     tie.close
     (tie.spec
-    get-in-requires
+    (λ c κs. search needs)
     returns
-    get-in-requires-2
-    get-in-requires-3
+    (λ c κs. search needs)
+    (λ c κs. search needs)
     returns-2
-    get-in-requires-4
-    get-in-requires-5
+    (λ c κs. search needs)
+    (λ c κs. search needs)
     returns-3
-    get-in-requires-6
-    get-in-requires-7
+    (λ c κs. search needs)
+    (λ c κs. search needs)
     returns-4)

@@ -4,18 +4,9 @@ use borrow.Author.Needs.{needs}
 use Rattle.expiry.proofs.check.one_refusal.Statement.{statement}
 use Rattle.expiry.proofs.check.one_refusal.Tie as tie
 
-get-requires : tie.Need-get-requires
-get-requires c κs = search needs
-
-plain-refusal-requires : tie.Need-plain-refusal-requires
-plain-refusal-requires c κs = search needs
-
 returns : tie.Need-returns
 unfolding oneRefusal
 returns c = simp (← (c .before .before .get .ensures), eq-eqb _ _ (c .before .if1 .taken)) (c .plain-refusal .ensures)
-
-queuing-refusal-requires : tie.Need-queuing-refusal-requires
-queuing-refusal-requires c κs = search needs
 
 returns-2 : tie.Need-returns-2
 unfolding oneRefusal
@@ -24,4 +15,4 @@ returns-2 c = simp (← (c .before .before .get .ensures), ne-eqb _ _ (c .before
 pub one-refusal-spec : {M : Type 1} → statement M
 one-refusal-spec =
     tie.close
-    (tie.spec get-requires plain-refusal-requires returns queuing-refusal-requires returns-2)
+    (tie.spec (λ c κs. search needs) (λ c κs. search needs) returns (λ c κs. search needs) returns-2)

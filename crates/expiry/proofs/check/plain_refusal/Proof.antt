@@ -5,15 +5,9 @@ use borrow.Author.Needs.{needs}
 use Rattle.expiry.proofs.check.plain_refusal.Statement.{statement}
 use Rattle.expiry.proofs.check.plain_refusal.Tie as tie
 
-get-in-requires : tie.Need-get-in-requires
-get-in-requires c κs = search needs
-
 returns : tie.Need-returns
 unfolding plainRefusal
 returns c = simp (← (c .before .get-in .ensures), ne-eqb _ _ (c .if1 .taken))
-
-timer-passes-requires : tie.Need-timer-passes-requires
-timer-passes-requires c κs = search needs
 
 returns-2 : tie.Need-returns-2
 unfolding plainRefusal
@@ -25,4 +19,4 @@ returns-3 c = simp (← (c .before .before .before .get-in .ensures), eq-eqb _ _
 
 pub plain-refusal-spec : {M : Type 1} → statement M
 plain-refusal-spec =
-    tie.close (tie.spec get-in-requires returns timer-passes-requires returns-2 returns-3)
+    tie.close (tie.spec (λ c κs. search needs) returns (λ c κs. search needs) returns-2 returns-3)

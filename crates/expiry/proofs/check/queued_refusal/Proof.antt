@@ -5,9 +5,6 @@ use borrow.Author.Needs.{needs}
 use Rattle.expiry.proofs.check.queued_refusal.Statement.{statement}
 use Rattle.expiry.proofs.check.queued_refusal.Tie as tie
 
-is-own-requires : tie.Need-is-own-requires
-is-own-requires c κs = search needs
-
 returns : tie.Need-returns
 unfolding queuedRefusal
 returns c = simp (sym (c .before .is-own .ensures) ∙ not-true _ (c .if1 .taken))
@@ -21,4 +18,4 @@ unfolding queuedRefusal
 returns-3 c = simp (sym (c .before .before .before .is-own .ensures) ∙ not-false _ (c .before .before .if1 .left), lt-leb _ _ (c .if2 .left))
 
 pub queued-refusal-spec : {M : Type 1} → statement M
-queued-refusal-spec = tie.close (tie.spec is-own-requires returns returns-2 returns-3)
+queued-refusal-spec = tie.close (tie.spec (λ c κs. search needs) returns returns-2 returns-3)

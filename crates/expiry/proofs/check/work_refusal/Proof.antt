@@ -4,18 +4,9 @@ use borrow.Author.Needs.{needs}
 use Rattle.expiry.proofs.check.work_refusal.Statement.{statement}
 use Rattle.expiry.proofs.check.work_refusal.Tie as tie
 
-get-in-requires : tie.Need-get-in-requires
-get-in-requires c κs = search needs
-
-idle-refusal-requires : tie.Need-idle-refusal-requires
-idle-refusal-requires c κs = search needs
-
 returns : tie.Need-returns
 unfolding workRefusal
 returns c = simp (← (c .before .before .get-in .ensures), eq-eqb _ _ (c .before .if1 .taken)) (c .idle-refusal .ensures)
-
-queued-refusal-requires : tie.Need-queued-refusal-requires
-queued-refusal-requires c κs = search needs
 
 returns-2 : tie.Need-returns-2
 unfolding workRefusal
@@ -29,9 +20,9 @@ pub work-refusal-spec : {M : Type 1} → statement M
 work-refusal-spec =
     tie.close
     (tie.spec
-    get-in-requires
-    idle-refusal-requires
+    (λ c κs. search needs)
+    (λ c κs. search needs)
     returns
-    queued-refusal-requires
+    (λ c κs. search needs)
     returns-2
     returns-3)

@@ -7,21 +7,6 @@ use borrow.Author.Needs.{needs}
 use Rattle.expiry.proofs.due.note.Statement.{statement}
 use Rattle.expiry.proofs.due.note.Tie as tie
 
-entry-at-requires : tie.Need-entry-at-requires
-entry-at-requires c κs = search needs
-
-is-due-requires : tie.Need-is-due-requires
-is-due-requires c κs = search needs
-
-put-requires : tie.Need-put-requires
-put-requires c κs = search needs
-
-add-result : tie.Need-add-result
-add-result c = search needs
-
-same-length : tie.Need-same-length
-same-length c = search needs
-
 returns : tie.Need-returns
 unfolding noted notedTo
 returns c = let e : isDue (now (c .before .before .before .before .before .before .before .before .before .args .w)) (entryAt (c .before .before .before .before .before .before .before .before .before .args .base) (c .before .before .before .before .before .before .before .before .before .args .i)) (c .before .before .before .before .before .before .before .before .before .args .time) ≡ true = cc in simp e (search needs)
@@ -34,10 +19,10 @@ pub note-spec : {M : Type 1} → statement M
 note-spec =
     tie.close
     (tie.spec
-    entry-at-requires
-    is-due-requires
-    put-requires
-    add-result
-    same-length
+    (λ c κs. search needs)
+    (λ c κs. search needs)
+    (λ c κs. search needs)
+    (λ c. search needs)
+    (λ c. search needs)
     returns
     returns-2)

@@ -4,27 +4,9 @@ use borrow.Author.Needs.{needs}
 use Rattle.expiry.proofs.expire.unname.Statement.{statement}
 use Rattle.expiry.proofs.expire.unname.Tie as tie
 
-get-in-requires : tie.Need-get-in-requires
-get-in-requires c κs = search needs
-
-same-length : tie.Need-same-length
-same-length c = search needs
-
 returns : tie.Need-returns
 unfolding unnamed
 returns c = simp (← (c .before .get-in .ensures), eq-eqb _ _ (c .if1 .taken))
-
-number-of-requires : tie.Need-number-of-requires
-number-of-requires c κs = search needs
-
-place-requires : tie.Need-place-requires
-place-requires c κs = search needs
-
-put-in-requires : tie.Need-put-in-requires
-put-in-requires c κs = search needs
-
-same-length-2 : tie.Need-same-length-2
-same-length-2 c = search needs
 
 returns-2 : tie.Need-returns-2
 unfolding unnamed
@@ -34,11 +16,11 @@ pub unname-spec : {M : Type 1} → statement M
 unname-spec =
     tie.close
     (tie.spec
-    get-in-requires
-    same-length
+    (λ c κs. search needs)
+    (λ c. search needs)
     returns
-    number-of-requires
-    place-requires
-    put-in-requires
-    same-length-2
+    (λ c κs. search needs)
+    (λ c κs. search needs)
+    (λ c κs. search needs)
+    (λ c. search needs)
     returns-2)

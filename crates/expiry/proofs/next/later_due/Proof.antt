@@ -5,15 +5,6 @@ use borrow.Author.Needs.{needs}
 use Rattle.expiry.proofs.next.later_due.Statement.{statement}
 use Rattle.expiry.proofs.next.later_due.Tie as tie
 
-next-due-requires : tie.Need-next-due-requires
-next-due-requires c κs = search needs
-
-enum-known-n : tie.Need-enum-known-n
-enum-known-n c = search needs
-
-enum-told : tie.Need-enum-told
-enum-told c = search needs
-
 returns : tie.Need-returns
 unfolding laterDue
 returns c = simp (value-fits (c .before .n .given .0 .0) (nextDue (c .before .before .before .before .args .due) (c .before .before .before .before .args .time) (c .before .before .before .before .args .period)) (sym (c .before .n .given .1) ∙ c .before .before .before .next-due .ensures)) (value-is (c .before .n .given .0 .0) (nextDue (c .before .before .before .before .args .due) (c .before .before .before .before .args .time) (c .before .before .before .before .args .period)) (sym (c .before .n .given .1) ∙ c .before .before .before .next-due .ensures))
@@ -23,4 +14,4 @@ unfolding laterDue
 returns-2 c = simp (overflow-is (nextDue (c .before .before .before .args .due) (c .before .before .before .args .time) (c .before .before .before .args .period)) (sym (c .enum-told .given .1) ∙ c .before .before .next-due .ensures))
 
 pub later-due-spec : {M : Type 1} → statement M
-later-due-spec = tie.close (tie.spec next-due-requires enum-known-n enum-told returns returns-2)
+later-due-spec = tie.close (tie.spec (λ c κs. search needs) (λ c. search needs) (λ c. search needs) returns returns-2)

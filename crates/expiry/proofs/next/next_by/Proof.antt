@@ -6,20 +6,11 @@ use borrow.Author.Needs.{needs}
 use Rattle.expiry.proofs.next.next_by.Statement.{statement}
 use Rattle.expiry.proofs.next.next_by.Tie as tie
 
-checked-add-requires : tie.Need-checked-add-requires
-checked-add-requires c κs = search needs
-
 returns : tie.Need-returns
 returns c = c .checked-add .ensures ∙ ap checked (sym (next-early (c .before .before .args .due) (c .before .before .args .time) (c .before .before .args .step) (c .before .if1 .taken)))
 
-rem-checked-add : tie.Need-rem-checked-add
-rem-checked-add c = search needs
-
 sub-checked-add : tie.Need-sub-checked-add
 sub-checked-add c = rest-most (c .before .args .due) (c .before .args .time) (c .before .args .step)
-
-checked-add-requires-2 : tie.Need-checked-add-requires-2
-checked-add-requires-2 c κs = search needs
 
 returns-2 : tie.Need-returns-2
 returns-2 c = c .checked-add2 .ensures ∙ ap checked (sym (next-late (c .before .before .args .due) (c .before .before .args .time) (c .before .before .args .step) (c .before .if1 .left)))
@@ -28,9 +19,9 @@ pub next-by-spec : {M : Type 1} → statement M
 next-by-spec =
     tie.close
     (tie.spec
-    checked-add-requires
+    (λ c κs. search needs)
     returns
-    rem-checked-add
+    (λ c. search needs)
     sub-checked-add
-    checked-add-requires-2
+    (λ c κs. search needs)
     returns-2)

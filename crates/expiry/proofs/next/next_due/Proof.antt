@@ -11,15 +11,6 @@ use Rattle.expiry.proofs.next.next_due.Tie as tie
 returns : tie.Need-returns
 returns c = one-shot (c .before .args .due) (c .before .args .time) (c .before .args .period) (omega (arith, c .before .fits .due)) (c .if1 .taken)
 
-checked-mul-requires : tie.Need-checked-mul-requires
-checked-mul-requires c κs = search needs
-
-enum-known-step : tie.Need-enum-known-step
-enum-known-step c = search needs
-
-enum-told : tie.Need-enum-told
-enum-told c = search needs
-
 returns-2 : tie.Need-returns-2
 returns-2 c = step-passes (c .before .before .before .before .args .due) (c .before .before .before .before .args .time) (c .before .before .before .before .args .period) (sym (c .enum-told .given .1) ∙ c .before .before .checked-mul .ensures)
 
@@ -35,9 +26,9 @@ next-due-spec =
     tie.close
     (tie.spec
     returns
-    checked-mul-requires
-    enum-known-step
-    enum-told
+    (λ c κs. search needs)
+    (λ c. search needs)
+    (λ c. search needs)
     returns-2
     next-by-requires
     returns-3)

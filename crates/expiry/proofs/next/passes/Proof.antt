@@ -5,15 +5,6 @@ use borrow.Author.Needs.{needs}
 use Rattle.expiry.proofs.next.passes.Statement.{statement}
 use Rattle.expiry.proofs.next.passes.Tie as tie
 
-next-due-requires : tie.Need-next-due-requires
-next-due-requires c κs = search needs
-
-enum-told : tie.Need-enum-told
-enum-told c = search needs
-
-enum-told-2 : tie.Need-enum-told-2
-enum-told-2 c = search needs
-
 returns : tie.Need-returns
 unfolding passes
 returns c = simp (value-fits (c .enum-told .given .0 .0) (nextDue (c .before .before .before .args .due) (c .before .before .before .args .time) (c .before .before .before .args .period)) (sym (c .enum-told .given .1) ∙ c .before .before .next-due .ensures))
@@ -23,4 +14,4 @@ unfolding passes
 returns-2 c = simp (overflow-is (nextDue (c .before .before .before .args .due) (c .before .before .before .args .time) (c .before .before .before .args .period)) (sym (c .enum-told2 .given .1) ∙ c .before .before .next-due .ensures))
 
 pub passes-spec : {M : Type 1} → statement M
-passes-spec = tie.close (tie.spec next-due-requires enum-told enum-told-2 returns returns-2)
+passes-spec = tie.close (tie.spec (λ c κs. search needs) (λ c. search needs) (λ c. search needs) returns returns-2)

@@ -9,15 +9,6 @@ use Rattle.exports.proofs.dpc_calls.scheduler_dpc_policy.Tie as tie
 returns : tie.Need-returns
 returns c = read-short _ (now (c .before .before .before .args .words)) (now (c .before .before .before .args .out)) _ (c .if1 .taken)
 
-dpc-policy-requires : tie.Need-dpc-policy-requires
-dpc-policy-requires c κs = search needs
-
-put-policy-answer-requires : tie.Need-put-policy-answer-requires
-put-policy-answer-requires c κs = search needs
-
-same-length : tie.Need-same-length
-same-length c = search needs
-
 returns-2 : tie.Need-returns-2
 returns-2 c =
     (λ i. given ((c .before .before .put-policy-answer .ensures .0) i) (now (c .before .before .before .before .before .before .before .before .args .words)) ((c .before .before .put-policy-answer .ensures .1) i))
@@ -26,4 +17,4 @@ returns-2 c =
 pub scheduler-dpc-policy-spec : {M : Type 1} → statement M
 scheduler-dpc-policy-spec =
     tie.close
-    (tie.spec returns dpc-policy-requires put-policy-answer-requires same-length returns-2)
+    (tie.spec returns (λ c κs. search needs) (λ c κs. search needs) (λ c. search needs) returns-2)

@@ -3,30 +3,6 @@ use borrow.Author.Needs.{needs}
 use Rattle.exports.proofs.record_answer.put_setting.Statement.{statement}
 use Rattle.exports.proofs.record_answer.put_setting.Tie as tie
 
-put-requires : tie.Need-put-requires
-put-requires c κs = search needs
-
-put-requires-2 : tie.Need-put-requires-2
-put-requires-2 c κs = search needs
-
-put-requires-3 : tie.Need-put-requires-3
-put-requires-3 c κs = search needs
-
-flag-requires : tie.Need-flag-requires
-flag-requires c κs = search needs
-
-put-requires-4 : tie.Need-put-requires-4
-put-requires-4 c κs = search needs
-
-put-requires-5 : tie.Need-put-requires-5
-put-requires-5 c κs = search needs
-
-put-requires-6 : tie.Need-put-requires-6
-put-requires-6 c κs = search needs
-
-same-length : tie.Need-same-length
-same-length c = search needs
-
 returns : tie.Need-returns
 unfolding settingIn
 returns c = cc
@@ -35,12 +11,12 @@ pub put-setting-spec : {M : Type 1} → statement M
 put-setting-spec =
     tie.close
     (tie.spec
-    put-requires
-    put-requires-2
-    put-requires-3
-    flag-requires
-    put-requires-4
-    put-requires-5
-    put-requires-6
-    same-length
+    (λ c κs. search needs)
+    (λ c κs. search needs)
+    (λ c κs. search needs)
+    (λ c κs. search needs)
+    (λ c κs. search needs)
+    (λ c κs. search needs)
+    (λ c κs. search needs)
+    (λ c. search needs)
     returns)

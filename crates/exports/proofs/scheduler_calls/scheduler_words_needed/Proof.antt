@@ -9,18 +9,9 @@ use Rattle.exports.proofs.scheduler_calls.scheduler_words_needed.Tie as
 returns : tie.Need-returns
 returns c = read-short _ (now (c .before .before .args .out)) (now (c .before .before .args .out)) _ (c .if1 .taken)
 
-words-needed-requires : tie.Need-words-needed-requires
-words-needed-requires c κs = search needs
-
-put-answer-requires : tie.Need-put-answer-requires
-put-answer-requires c κs = search needs
-
-same-length : tie.Need-same-length
-same-length c = search needs
-
 returns-2 : tie.Need-returns-2
 returns-2 c = (λ i. given ((c .before .before .put-answer .ensures .0) i) (now (c .before .before .before .before .before .before .before .args .out)) ((c .before .before .put-answer .ensures .1) i)) ∙ read-by _ (now (c .before .before .before .before .before .before .before .args .out)) (now (c .before .before .before .before .before .before .before .args .out)) (c .before .before .before .before .words-needed .result) _ (c .before .before .before .before .before .if1 .left) (c .before .before .before .before .words-needed .ensures)
 
 pub scheduler-words-needed-spec : {M : Type 1} → statement M
 scheduler-words-needed-spec =
-    tie.close (tie.spec returns words-needed-requires put-answer-requires same-length returns-2)
+    tie.close (tie.spec returns (λ c κs. search needs) (λ c κs. search needs) (λ c. search needs) returns-2)

@@ -9,15 +9,6 @@ use Rattle.exports.proofs.thread_calls.scheduler_waited_object.Tie as t
 returns : tie.Need-returns
 returns c = read-short _ (now (c .before .before .before .args .words)) (now (c .before .before .before .args .out)) _ (c .if1 .taken)
 
-waited-object-requires : tie.Need-waited-object-requires
-waited-object-requires c κs = search needs
-
-put-place-answer-requires : tie.Need-put-place-answer-requires
-put-place-answer-requires c κs = search needs
-
-same-length : tie.Need-same-length
-same-length c = search needs
-
 returns-2 : tie.Need-returns-2
 returns-2 c =
     (λ i. given ((c .before .before .put-place-answer .ensures .0) i) (now (c .before .before .before .before .before .before .before .before .args .words)) ((c .before .before .put-place-answer .ensures .1) i))
@@ -26,4 +17,4 @@ returns-2 c =
 pub scheduler-waited-object-spec : {M : Type 1} → statement M
 scheduler-waited-object-spec =
     tie.close
-    (tie.spec returns waited-object-requires put-place-answer-requires same-length returns-2)
+    (tie.spec returns (λ c κs. search needs) (λ c κs. search needs) (λ c. search needs) returns-2)

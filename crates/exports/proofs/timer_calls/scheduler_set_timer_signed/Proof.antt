@@ -12,18 +12,6 @@ use Rattle.exports.proofs.timer_calls.scheduler_set_timer_signed.Tie as
 returns : tie.Need-returns
 returns c = changed-short (now (c .before .before .before .args .words)) (now (c .before .before .before .args .out)) _ (c .if1 .taken)
 
-set-timer-signed-requires : tie.Need-set-timer-signed-requires
-set-timer-signed-requires c κs = search needs
-
-put-answer-requires : tie.Need-put-answer-requires
-put-answer-requires c κs = search needs
-
-same-length : tie.Need-same-length
-same-length c = search needs
-
-same-length-2 : tie.Need-same-length-2
-same-length-2 c = search needs
-
 returns-2 : tie.Need-returns-2
 returns-2 c = (λ i. given ((c .before .before .put-answer .ensures .0) i) (c .before .before .before .before .before .before .set-timer-signed .last .0) ((c .before .before .put-answer .ensures .1) i)) ∙ changed-by (now (c .before .before .before .before .before .before .before .before .before .before .before .args .words)) (now (c .before .before .before .before .before .before .before .before .before .before .before .args .out)) _ (c .before .before .before .before .before .before .set-timer-signed .result) (c .before .before .before .before .before .before .set-timer-signed .last .0) (c .before .before .before .before .before .before .before .before .if1 .left) (c .before .before .before .before .before .before .set-timer-signed .ensures ∙ (λ i. called (now (c .before .before .before .before .before .before .before .before .before .before .before .args .words)) (call.SetTimerSigned (c .before .before .before .before .before .before .before .before .before .before .before .args .address) ((toZ-ofZ (c .before .before .before .before .before .before .before .before .before .before .before .fits .due)) i) ((toZ-ofZ (c .before .before .before .before .before .before .before .before .before .before .before .fits .period)) i) (c .before .before .before .before .before .before .before .before .before .before .before .args .dpc))))
 
@@ -32,8 +20,8 @@ scheduler-set-timer-signed-spec =
     tie.close
     (tie.spec
     returns
-    set-timer-signed-requires
-    put-answer-requires
-    same-length
-    same-length-2
+    (λ c κs. search needs)
+    (λ c κs. search needs)
+    (λ c. search needs)
+    (λ c. search needs)
     returns-2)

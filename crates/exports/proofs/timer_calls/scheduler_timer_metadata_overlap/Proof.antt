@@ -11,15 +11,6 @@ use Rattle.exports.proofs.timer_calls.scheduler_timer_metadata_overlap.
 returns : tie.Need-returns
 returns c = read-short _ (now (c .before .before .before .args .words)) (now (c .before .before .before .args .out)) _ (c .if1 .taken)
 
-timer-metadata-overlap-requires : tie.Need-timer-metadata-overlap-requires
-timer-metadata-overlap-requires c κs = search needs
-
-put-answer-requires : tie.Need-put-answer-requires
-put-answer-requires c κs = search needs
-
-same-length : tie.Need-same-length
-same-length c = search needs
-
 returns-2 : tie.Need-returns-2
 returns-2 c =
     (λ i. given ((c .before .before .put-answer .ensures .0) i) (now (c .before .before .before .before .before .before .before .before .args .words)) ((c .before .before .put-answer .ensures .1) i))
@@ -28,4 +19,4 @@ returns-2 c =
 pub scheduler-timer-metadata-overlap-spec : {M : Type 1} → statement M
 scheduler-timer-metadata-overlap-spec =
     tie.close
-    (tie.spec returns timer-metadata-overlap-requires put-answer-requires same-length returns-2)
+    (tie.spec returns (λ c κs. search needs) (λ c κs. search needs) (λ c. search needs) returns-2)

@@ -6,15 +6,6 @@ use borrow.Author.Needs.{needs}
 use Rattle.form.proofs.header.is_long_enough.Statement.{statement}
 use Rattle.form.proofs.header.is_long_enough.Tie as tie
 
-get-requires : tie.Need-get-requires
-get-requires c κs = search needs
-
-get-requires-2 : tie.Need-get-requires-2
-get-requires-2 c κs = search needs
-
-get-requires-3 : tie.Need-get-requires-3
-get-requires-3 c κs = search needs
-
 mul-result : tie.Need-mul-result
 mul-result c = omega (arith, limits-pass (now (c .before .before .before .before .args .w)) (c .before .before .before .before .pre))
 
@@ -38,9 +29,9 @@ pub is-long-enough-spec : {M : Type 1} → statement M
 is-long-enough-spec =
     tie.close
     (tie.spec
-    get-requires
-    get-requires-2
-    get-requires-3
+    (λ c κs. search needs)
+    (λ c κs. search needs)
+    (λ c κs. search needs)
     mul-result
     add-result
     add-result-2

@@ -4,22 +4,13 @@ use borrow.Author.Needs.{needs}
 use Rattle.form.proofs.header.lifetimes_pass.Statement.{statement}
 use Rattle.form.proofs.header.lifetimes_pass.Tie as tie
 
-get-requires : tie.Need-get-requires
-get-requires c κs = search needs
-
 returns : tie.Need-returns
 unfolding lifetimesPass
 returns c = simp (← (c .before .get .ensures), lt-ltb _ _ (c .if1 .taken))
 
-get-requires-2 : tie.Need-get-requires-2
-get-requires-2 c κs = search needs
-
 returns-2 : tie.Need-returns-2
 unfolding lifetimesPass
 returns-2 c = simp (← (c .before .before .before .get .ensures), ← (c .before .get2 .ensures), le-ltb _ _ (c .before .before .if1 .left), lt-ltb _ _ (c .if2 .taken))
-
-get-requires-3 : tie.Need-get-requires-3
-get-requires-3 c κs = search needs
 
 returns-3 : tie.Need-returns-3
 unfolding lifetimesPass
@@ -27,4 +18,4 @@ returns-3 c = simp (← (c .before .before .before .before .get .ensures), ← (
 
 pub lifetimes-pass-spec : {M : Type 1} → statement M
 lifetimes-pass-spec =
-    tie.close (tie.spec get-requires returns get-requires-2 returns-2 get-requires-3 returns-3)
+    tie.close (tie.spec (λ c κs. search needs) returns (λ c κs. search needs) returns-2 (λ c κs. search needs) returns-3)

@@ -4,12 +4,6 @@ use borrow.Author.Needs.{needs}
 use Rattle.form.proofs.header.policy_passes.Statement.{statement}
 use Rattle.form.proofs.header.policy_passes.Tie as tie
 
-get-requires : tie.Need-get-requires
-get-requires c κs = search needs
-
-has-no-arguments-requires : tie.Need-has-no-arguments-requires
-has-no-arguments-requires c κs = search needs
-
 returns : tie.Need-returns
 unfolding policyPasses
 returns c = simp (← (c .before .before .get .ensures), eq-eqb _ _ (c .before .if1 .taken)) (cc)
@@ -18,15 +12,9 @@ returns-2 : tie.Need-returns-2
 unfolding policyPasses
 returns-2 c = simp (← (c .before .before .get .ensures), ne-eqb _ _ (c .before .if1 .left), ne-eqb _ _ (c .if2 .taken))
 
-get-requires-2 : tie.Need-get-requires-2
-get-requires-2 c κs = search needs
-
 returns-3 : tie.Need-returns-3
 unfolding policyPasses
 returns-3 c = simp (← (c .before .before .before .before .get .ensures), ne-eqb _ _ (c .before .before .before .if1 .left), eq-eqb _ _ (c .before .before .if2 .left), ← (c .before .get2 .ensures), eq-eqb _ _ (c .if3 .taken))
-
-get-requires-3 : tie.Need-get-requires-3
-get-requires-3 c κs = search needs
 
 returns-4 : tie.Need-returns-4
 unfolding policyPasses
@@ -40,12 +28,12 @@ pub policy-passes-spec : {M : Type 1} → statement M
 policy-passes-spec =
     tie.close
     (tie.spec
-    get-requires
-    has-no-arguments-requires
+    (λ c κs. search needs)
+    (λ c κs. search needs)
     returns
     returns-2
-    get-requires-2
+    (λ c κs. search needs)
     returns-3
-    get-requires-3
+    (λ c κs. search needs)
     returns-4
     returns-5)

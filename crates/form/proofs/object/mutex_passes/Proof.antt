@@ -4,19 +4,13 @@ use borrow.Author.Needs.{needs}
 use Rattle.form.proofs.object.mutex_passes.Statement.{statement}
 use Rattle.form.proofs.object.mutex_passes.Tie as tie
 
-get-in-requires : tie.Need-get-in-requires
-get-in-requires c κs = search needs
-
 returns : tie.Need-returns
 unfolding mutexPasses
 returns c = simp (← (c .before .get-in .ensures), ne-eqb _ _ (c .if1 .taken))
-
-get-in-requires-2 : tie.Need-get-in-requires-2
-get-in-requires-2 c κs = search needs
 
 returns-2 : tie.Need-returns-2
 unfolding mutexPasses
 returns-2 c = simp (← (c .before .before .get-in .ensures), eq-eqb _ _ (c .before .if1 .left)) (cc)
 
 pub mutex-passes-spec : {M : Type 1} → statement M
-mutex-passes-spec = tie.close (tie.spec get-in-requires returns get-in-requires-2 returns-2)
+mutex-passes-spec = tie.close (tie.spec (λ c κs. search needs) returns (λ c κs. search needs) returns-2)

@@ -4,35 +4,17 @@ use borrow.Author.Needs.{needs}
 use Rattle.form.proofs.object.numbers_pass.Statement.{statement}
 use Rattle.form.proofs.object.numbers_pass.Tie as tie
 
-entry-at-requires : tie.Need-entry-at-requires
-entry-at-requires c κs = search needs
-
-key-at-requires : tie.Need-key-at-requires
-key-at-requires c κs = search needs
-
 returns : tie.Need-returns
 unfolding objectNumbers
 returns c = simp (← (c .before .key-at .ensures), eq-eqb _ _ (c .if1 .taken))
-
-get-in-requires : tie.Need-get-in-requires
-get-in-requires c κs = search needs
-
-mutex-passes-requires : tie.Need-mutex-passes-requires
-mutex-passes-requires c κs = search needs
 
 returns-2 : tie.Need-returns-2
 unfolding objectNumbers
 returns-2 c = simp (← (c .before .before .before .before .key-at .ensures), ne-eqb _ _ (c .before .before .before .if1 .left), ← (c .before .before .before .before .before .entry-at .ensures), ← (c .before .before .get-in .ensures), eq-eqb _ _ (c .before .if2 .taken)) (cc)
 
-event-passes-requires : tie.Need-event-passes-requires
-event-passes-requires c κs = search needs
-
 returns-3 : tie.Need-returns-3
 unfolding objectNumbers
 returns-3 c = simp (← (c .before .before .before .before .before .key-at .ensures), ne-eqb _ _ (c .before .before .before .before .if1 .left), ← (c .before .before .before .before .before .before .entry-at .ensures), ← (c .before .before .before .get-in .ensures), ne-eqb _ _ (c .before .before .if2 .left), eq-eqb _ _ (c .before .if3 .taken)) (cc)
-
-numbers-pass-requires : tie.Need-numbers-pass-requires
-numbers-pass-requires c κs = search needs
 
 returns-4 : tie.Need-returns-4
 unfolding objectNumbers
@@ -46,14 +28,14 @@ pub numbers-pass-spec : {M : Type 1} → statement M
 numbers-pass-spec =
     tie.close
     (tie.spec
-    entry-at-requires
-    key-at-requires
+    (λ c κs. search needs)
+    (λ c κs. search needs)
     returns
-    get-in-requires
-    mutex-passes-requires
+    (λ c κs. search needs)
+    (λ c κs. search needs)
     returns-2
-    event-passes-requires
+    (λ c κs. search needs)
     returns-3
-    numbers-pass-requires
+    (λ c κs. search needs)
     returns-4
     returns-5)

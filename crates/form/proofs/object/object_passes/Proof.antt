@@ -5,32 +5,17 @@ use borrow.Author.Needs.{needs}
 use Rattle.form.proofs.object.object_passes.Statement.{statement}
 use Rattle.form.proofs.object.object_passes.Tie as tie
 
-numbers-pass-requires : tie.Need-numbers-pass-requires
-numbers-pass-requires c κs = search needs
-
 returns : tie.Need-returns
 unfolding objectPasses
 returns c = simp (sym (c .before .numbers-pass .ensures) ∙ not-true _ (c .if1 .taken))
-
-key-rises-requires : tie.Need-key-rises-requires
-key-rises-requires c κs = search needs
 
 returns-2 : tie.Need-returns-2
 unfolding objectPasses
 returns-2 c = simp (sym (c .before .before .before .numbers-pass .ensures) ∙ not-false _ (c .before .before .if1 .left), sym (c .before .key-rises .ensures) ∙ not-true _ (c .if2 .taken))
 
-owner-lives-requires : tie.Need-owner-lives-requires
-owner-lives-requires c κs = search needs
-
 returns-3 : tie.Need-returns-3
 unfolding objectPasses
 returns-3 c = simp (sym (c .before .before .before .before .before .numbers-pass .ensures) ∙ not-false _ (c .before .before .before .before .if1 .left), sym (c .before .before .before .key-rises .ensures) ∙ not-false _ (c .before .before .if2 .left), sym (c .before .owner-lives .ensures) ∙ not-true _ (c .if3 .taken))
-
-entry-at-requires : tie.Need-entry-at-requires
-entry-at-requires c κs = search needs
-
-dpc-serves-requires : tie.Need-dpc-serves-requires
-dpc-serves-requires c κs = search needs
 
 returns-4 : tie.Need-returns-4
 unfolding objectPasses
@@ -40,12 +25,12 @@ pub object-passes-spec : {M : Type 1} → statement M
 object-passes-spec =
     tie.close
     (tie.spec
-    numbers-pass-requires
+    (λ c κs. search needs)
     returns
-    key-rises-requires
+    (λ c κs. search needs)
     returns-2
-    owner-lives-requires
+    (λ c κs. search needs)
     returns-3
-    entry-at-requires
-    dpc-serves-requires
+    (λ c κs. search needs)
+    (λ c κs. search needs)
     returns-4)

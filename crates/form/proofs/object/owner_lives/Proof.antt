@@ -4,15 +4,6 @@ use borrow.Author.Needs.{needs}
 use Rattle.form.proofs.object.owner_lives.Statement.{statement}
 use Rattle.form.proofs.object.owner_lives.Tie as tie
 
-entry-at-requires : tie.Need-entry-at-requires
-entry-at-requires c κs = search needs
-
-get-in-requires : tie.Need-get-in-requires
-get-in-requires c κs = search needs
-
-get-in-requires-2 : tie.Need-get-in-requires-2
-get-in-requires-2 c κs = search needs
-
 returns : tie.Need-returns
 unfolding ownerLives
 returns c = simp (← (c .before .before .before .entry-at .ensures), ← (c .before .before .get-in .ensures), ne-eqb _ _ (c .if1 .taken), ← (c .before .get-in2 .ensures))
@@ -20,9 +11,6 @@ returns c = simp (← (c .before .before .before .entry-at .ensures), ← (c .be
 returns-2 : tie.Need-returns-2
 unfolding ownerLives
 returns-2 c = simp (← (c .before .before .before .before .entry-at .ensures), ← (c .before .before .before .get-in .ensures), eq-eqb _ _ (c .before .if1 .left), ← (c .before .before .get-in2 .ensures), eq-eqb _ _ (c .if2 .taken))
-
-is-live-requires : tie.Need-is-live-requires
-is-live-requires c κs = search needs
 
 returns-3 : tie.Need-returns-3
 unfolding ownerLives
@@ -32,10 +20,10 @@ pub owner-lives-spec : {M : Type 1} → statement M
 owner-lives-spec =
     tie.close
     (tie.spec
-    entry-at-requires
-    get-in-requires
-    get-in-requires-2
+    (λ c κs. search needs)
+    (λ c κs. search needs)
+    (λ c κs. search needs)
     returns
     returns-2
-    is-live-requires
+    (λ c κs. search needs)
     returns-3)

@@ -7,20 +7,8 @@ use Rattle.form_dpc.proofs.counts.starts_pass.Tie as tie
 returns : tie.Need-returns
 returns c = simp (lt-ltb _ _ (c .if1 .taken))
 
-get-requires : tie.Need-get-requires
-get-requires c κs = search needs
-
-get-requires-2 : tie.Need-get-requires-2
-get-requires-2 c κs = search needs
-
-is-sum-requires : tie.Need-is-sum-requires
-is-sum-requires c κs = search needs
-
 returns-2 : tie.Need-returns-2
 returns-2 c = simp (le-ltb _ _ (c .before .before .before .before .if1 .left), ← (c .before .before .before .get .ensures), ← (c .before .before .get2 .ensures), sym (c .before .is-sum .ensures) ∙ not-true _ (c .if2 .taken))
-
-active-passes-requires : tie.Need-active-passes-requires
-active-passes-requires c κs = search needs
 
 returns-3 : tie.Need-returns-3
 returns-3 c = simp (le-ltb _ _ (c .before .before .before .before .before .if1 .left), ← (c .before .before .before .before .get .ensures), ← (c .before .before .before .get2 .ensures), sym (c .before .before .is-sum .ensures) ∙ not-false _ (c .before .if2 .left)) (cc)
@@ -30,9 +18,9 @@ starts-pass-spec =
     tie.close
     (tie.spec
     returns
-    get-requires
-    get-requires-2
-    is-sum-requires
+    (λ c κs. search needs)
+    (λ c κs. search needs)
+    (λ c κs. search needs)
     returns-2
-    active-passes-requires
+    (λ c κs. search needs)
     returns-3)

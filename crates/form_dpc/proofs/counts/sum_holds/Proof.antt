@@ -7,23 +7,11 @@ use borrow.Author.Needs.{needs}
 use Rattle.form_dpc.proofs.counts.sum_holds.Statement.{statement}
 use Rattle.form_dpc.proofs.counts.sum_holds.Tie as tie
 
-get-requires : tie.Need-get-requires
-get-requires c κs = search needs
-
-get-requires-2 : tie.Need-get-requires-2
-get-requires-2 c κs = search needs
-
 returns : tie.Need-returns
 returns c = cc (sum-over (c .before .before .get .result) (c .before .get2 .result) (getD (now (c .before .before .before .before .args .w)) at.restored 0 + (c .before .before .before .before .args .queued + c .before .before .before .before .args .active)) (c .if1 .taken))
 
-get-requires-3 : tie.Need-get-requires-3
-get-requires-3 c κs = search needs
-
 returns-2 : tie.Need-returns-2
 returns-2 c = cc (sum-over (c .before .before .before .before .get .result - c .before .before .before .get2 .result) (c .before .get3 .result) (c .before .before .before .before .before .before .args .queued + c .before .before .before .before .before .before .args .active) (c .if2 .taken), sum-less (c .before .before .before .before .get .result) (c .before .before .before .get2 .result) (c .before .get3 .result + (c .before .before .before .before .before .before .args .queued + c .before .before .before .before .before .before .args .active)) (c .before .before .if1 .left))
-
-is-sum-requires : tie.Need-is-sum-requires
-is-sum-requires c κs = search needs
 
 returns-3 : tie.Need-returns-3
 returns-3 c = cc (sum-less (c .before .before .before .before .before .get .result - c .before .before .before .before .get2 .result) (c .before .before .get3 .result) (c .before .before .before .before .before .before .before .args .queued + c .before .before .before .before .before .before .before .args .active) (c .before .if2 .left), sum-less (c .before .before .before .before .before .get .result) (c .before .before .before .before .get2 .result) (c .before .before .get3 .result + (c .before .before .before .before .before .before .before .args .queued + c .before .before .before .before .before .before .before .args .active)) (c .before .before .before .if1 .left))
@@ -32,10 +20,10 @@ pub sum-holds-spec : {M : Type 1} → statement M
 sum-holds-spec =
     tie.close
     (tie.spec
-    get-requires
-    get-requires-2
+    (λ c κs. search needs)
+    (λ c κs. search needs)
     returns
-    get-requires-3
+    (λ c κs. search needs)
     returns-2
-    is-sum-requires
+    (λ c κs. search needs)
     returns-3)

@@ -5,28 +5,13 @@ use borrow.Author.Needs.{needs}
 use Rattle.form_dpc.proofs.dpc_records.address_stands_once.Statement.{statement}
 use Rattle.form_dpc.proofs.dpc_records.address_stands_once.Tie as tie
 
-key-rises-requires : tie.Need-key-rises-requires
-key-rises-requires c κs = search needs
-
 returns : tie.Need-returns
 unfolding addressAt
 returns c = simp (sym (c .before .key-rises .ensures) ∙ not-true _ (c .if1 .taken))
 
-get-requires : tie.Need-get-requires
-get-requires c κs = search needs
-
 returns-2 : tie.Need-returns-2
 unfolding addressAt
 returns-2 c = simp (sym (c .before .before .before .key-rises .ensures) ∙ not-false _ (c .before .before .if1 .left), ← (c .before .get .ensures), le-leb _ _ (c .if2 .taken))
-
-objects-base-requires : tie.Need-objects-base-requires
-objects-base-requires c κs = search needs
-
-key-at-requires : tie.Need-key-at-requires
-key-at-requires c κs = search needs
-
-key-at-requires-2 : tie.Need-key-at-requires-2
-key-at-requires-2 c κs = search needs
 
 returns-3 : tie.Need-returns-3
 unfolding addressAt
@@ -36,11 +21,11 @@ pub address-stands-once-spec : {M : Type 1} → statement M
 address-stands-once-spec =
     tie.close
     (tie.spec
-    key-rises-requires
+    (λ c κs. search needs)
     returns
-    get-requires
+    (λ c κs. search needs)
     returns-2
-    objects-base-requires
-    key-at-requires
-    key-at-requires-2
+    (λ c κs. search needs)
+    (λ c κs. search needs)
+    (λ c κs. search needs)
     returns-3)

@@ -3,12 +3,9 @@ use borrow.Author.Needs.{needs}
 use Rattle.form_dpc.proofs.dpc_records.has_phase.Statement.{statement}
 use Rattle.form_dpc.proofs.dpc_records.has_phase.Tie as tie
 
-get-in-requires : tie.Need-get-in-requires
-get-in-requires c κs = search needs
-
 returns : tie.Need-returns
 unfolding hasPhase
 returns c = cc
 
 pub has-phase-spec : {M : Type 1} → statement M
-has-phase-spec = tie.close (tie.spec get-in-requires returns)
+has-phase-spec = tie.close (tie.spec (λ c κs. search needs) returns)

@@ -4,25 +4,13 @@ use borrow.Author.Needs.{needs}
 use Rattle.form_dpc.proofs.dpc_records.is_named_rightly.Statement.{statement}
 use Rattle.form_dpc.proofs.dpc_records.is_named_rightly.Tie as tie
 
-get-in-requires : tie.Need-get-in-requires
-get-in-requires c κs = search needs
-
 returns : tie.Need-returns
 unfolding namedRightly
 returns c = simp (← (c .before .get-in .ensures), eq-eqb _ _ (c .if1 .taken))
 
-place-of-requires : tie.Need-place-of-requires
-place-of-requires c κs = search needs
-
 returns-2 : tie.Need-returns-2
 unfolding namedRightly
 returns-2 c = simp (← (c .before .before .before .get-in .ensures), ne-eqb _ _ (c .before .before .if1 .left), ← (c .before .place-of .ensures), eq-eqb _ _ (c .if2 .taken))
-
-get-requires : tie.Need-get-requires
-get-requires c κs = search needs
-
-has-dpc-requires : tie.Need-has-dpc-requires
-has-dpc-requires c κs = search needs
 
 returns-3 : tie.Need-returns-3
 unfolding namedRightly
@@ -32,10 +20,10 @@ pub is-named-rightly-spec : {M : Type 1} → statement M
 is-named-rightly-spec =
     tie.close
     (tie.spec
-    get-in-requires
+    (λ c κs. search needs)
     returns
-    place-of-requires
+    (λ c κs. search needs)
     returns-2
-    get-requires
-    has-dpc-requires
+    (λ c κs. search needs)
+    (λ c κs. search needs)
     returns-3)

@@ -4,9 +4,6 @@ use borrow.Author.Needs.{needs}
 use Rattle.form_dpc.proofs.dpc_records.one_if.Statement.{statement}
 use Rattle.form_dpc.proofs.dpc_records.one_if.Tie as tie
 
-has-phase-requires : tie.Need-has-phase-requires
-has-phase-requires c κs = search needs
-
 returns : tie.Need-returns
 unfolding phaseOne
 returns c = simp (sym (c .before .has-phase .ensures) ∙ c .if1 .taken)
@@ -16,4 +13,4 @@ unfolding phaseOne
 returns-2 c = simp (sym (c .before .has-phase .ensures) ∙ c .if1 .left)
 
 pub one-if-spec : {M : Type 1} → statement M
-one-if-spec = tie.close (tie.spec has-phase-requires returns returns-2)
+one-if-spec = tie.close (tie.spec (λ c κs. search needs) returns returns-2)

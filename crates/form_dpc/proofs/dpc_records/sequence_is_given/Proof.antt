@@ -4,22 +4,13 @@ use borrow.Author.Needs.{needs}
 use Rattle.form_dpc.proofs.dpc_records.sequence_is_given.Statement.{statement}
 use Rattle.form_dpc.proofs.dpc_records.sequence_is_given.Tie as tie
 
-get-in-requires : tie.Need-get-in-requires
-get-in-requires c κs = search needs
-
 returns : tie.Need-returns
 unfolding sequenceGiven
 returns c = simp (← (c .before .get-in .ensures), eq-eqb _ _ (c .if1 .taken))
 
-get-in-requires-2 : tie.Need-get-in-requires-2
-get-in-requires-2 c κs = search needs
-
 returns-2 : tie.Need-returns-2
 unfolding sequenceGiven
 returns-2 c = simp (← (c .before .before .before .get-in .ensures), ne-eqb _ _ (c .before .before .if1 .left), ← (c .before .get-in2 .ensures), eq-eqb _ _ (c .if2 .taken))
-
-get-requires : tie.Need-get-requires
-get-requires c κs = search needs
 
 returns-3 : tie.Need-returns-3
 unfolding sequenceGiven
@@ -27,4 +18,4 @@ returns-3 c = simp (← (c .before .before .before .before .get-in .ensures), ne
 
 pub sequence-is-given-spec : {M : Type 1} → statement M
 sequence-is-given-spec =
-    tie.close (tie.spec get-in-requires returns get-in-requires-2 returns-2 get-requires returns-3)
+    tie.close (tie.spec (λ c κs. search needs) returns (λ c κs. search needs) returns-2 (λ c κs. search needs) returns-3)

@@ -5,29 +5,17 @@ use borrow.Author.Needs.{needs}
 use Rattle.form_dpc.proofs.dpc_records.work_passes.Statement.{statement}
 use Rattle.form_dpc.proofs.dpc_records.work_passes.Tie as tie
 
-get-in-requires : tie.Need-get-in-requires
-get-in-requires c κs = search needs
-
 returns : tie.Need-returns
 unfolding workPasses
 returns c = simp (← (c .before .get-in .ensures), eq-eqb _ _ (c .if1 .taken))
-
-get-in-requires-2 : tie.Need-get-in-requires-2
-get-in-requires-2 c κs = search needs
 
 returns-2 : tie.Need-returns-2
 unfolding workPasses
 returns-2 c = simp (← (c .before .before .before .get-in .ensures), ne-eqb _ _ (c .before .before .if1 .left), ← (c .before .get-in2 .ensures), lt-ltb _ _ (c .if2 .taken))
 
-origin-passes-requires : tie.Need-origin-passes-requires
-origin-passes-requires c κs = search needs
-
 returns-3 : tie.Need-returns-3
 unfolding workPasses
 returns-3 c = simp (← (c .before .before .before .before .before .get-in .ensures), ne-eqb _ _ (c .before .before .before .before .if1 .left), ← (c .before .before .before .get-in2 .ensures), le-ltb _ _ (c .before .before .if2 .left), sym (c .before .origin-passes .ensures) ∙ not-true _ (c .if3 .taken))
-
-get-in-requires-3 : tie.Need-get-in-requires-3
-get-in-requires-3 c κs = search needs
 
 returns-4 : tie.Need-returns-4
 unfolding workPasses
@@ -37,11 +25,11 @@ pub work-passes-spec : {M : Type 1} → statement M
 work-passes-spec =
     tie.close
     (tie.spec
-    get-in-requires
+    (λ c κs. search needs)
     returns
-    get-in-requires-2
+    (λ c κs. search needs)
     returns-2
-    origin-passes-requires
+    (λ c κs. search needs)
     returns-3
-    get-in-requires-3
+    (λ c κs. search needs)
     returns-4)

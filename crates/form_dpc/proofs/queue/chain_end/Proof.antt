@@ -4,12 +4,6 @@ use borrow.Author.Needs.{needs}
 use Rattle.form_dpc.proofs.queue.chain_end.Statement.{statement}
 use Rattle.form_dpc.proofs.queue.chain_end.Tie as tie
 
-cast-get : tie.Need-cast-get
-cast-get c = search needs
-
-get-requires : tie.Need-get-requires
-get-requires c κs = search needs
-
 returns : tie.Need-returns
 unfolding chainEnd
 returns c = simp (← (c .before .get .ensures), eq-eqb _ _ (c .if1 .taken))
@@ -19,4 +13,4 @@ unfolding chainEnd
 returns-2 c = simp (← (c .before .get .ensures), ne-eqb _ _ (c .if1 .left))
 
 pub chain-end-spec : {M : Type 1} → statement M
-chain-end-spec = tie.close (tie.spec cast-get get-requires returns returns-2)
+chain-end-spec = tie.close (tie.spec (λ c. search needs) (λ c κs. search needs) returns returns-2)

@@ -4,18 +4,9 @@ use borrow.Author.Needs.{needs}
 use Rattle.form_dpc.proofs.queue.is_queued.Statement.{statement}
 use Rattle.form_dpc.proofs.queue.is_queued.Tie as tie
 
-count-requires : tie.Need-count-requires
-count-requires c κs = search needs
-
 returns : tie.Need-returns
 unfolding queuedAt
 returns c = simp (← (c .before .count .ensures), lt-ltb _ _ (c .if1 .taken))
-
-place-requires : tie.Need-place-requires
-place-requires c κs = search needs
-
-has-phase-requires : tie.Need-has-phase-requires
-has-phase-requires c κs = search needs
 
 returns-2 : tie.Need-returns-2
 unfolding queuedAt
@@ -23,4 +14,4 @@ returns-2 c = simp (← (c .before .before .before .count .ensures), le-ltb _ _ 
 
 pub is-queued-spec : {M : Type 1} → statement M
 is-queued-spec =
-    tie.close (tie.spec count-requires returns place-requires has-phase-requires returns-2)
+    tie.close (tie.spec (λ c κs. search needs) returns (λ c κs. search needs) (λ c κs. search needs) returns-2)

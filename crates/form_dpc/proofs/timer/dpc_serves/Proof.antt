@@ -4,32 +4,17 @@ use borrow.Author.Needs.{needs}
 use Rattle.form_dpc.proofs.timer.dpc_serves.Statement.{statement}
 use Rattle.form_dpc.proofs.timer.dpc_serves.Tie as tie
 
-get-in-requires : tie.Need-get-in-requires
-get-in-requires c κs = search needs
-
 returns : tie.Need-returns
 unfolding dpcServes
 returns c = simp (← (c .before .get-in .ensures), ne-eqb _ _ (c .if1 .taken))
-
-get-in-requires-2 : tie.Need-get-in-requires-2
-get-in-requires-2 c κs = search needs
 
 returns-2 : tie.Need-returns-2
 unfolding dpcServes
 returns-2 c = simp (← (c .before .before .before .get-in .ensures), eq-eqb _ _ (c .before .before .if1 .left), ← (c .before .get-in2 .ensures), eq-eqb _ _ (c .if2 .taken))
 
-get-in-requires-3 : tie.Need-get-in-requires-3
-get-in-requires-3 c κs = search needs
-
 returns-3 : tie.Need-returns-3
 unfolding dpcServes
 returns-3 c = simp (← (c .before .before .before .before .before .get-in .ensures), eq-eqb _ _ (c .before .before .before .before .if1 .left), ← (c .before .before .before .get-in2 .ensures), ne-eqb _ _ (c .before .before .if2 .left), ← (c .before .get-in3 .ensures), eq-eqb _ _ (c .if3 .taken))
-
-get-requires : tie.Need-get-requires
-get-requires c κs = search needs
-
-serves-it-requires : tie.Need-serves-it-requires
-serves-it-requires c κs = search needs
 
 returns-4 : tie.Need-returns-4
 unfolding dpcServes
@@ -39,12 +24,12 @@ pub dpc-serves-spec : {M : Type 1} → statement M
 dpc-serves-spec =
     tie.close
     (tie.spec
-    get-in-requires
+    (λ c κs. search needs)
     returns
-    get-in-requires-2
+    (λ c κs. search needs)
     returns-2
-    get-in-requires-3
+    (λ c κs. search needs)
     returns-3
-    get-requires
-    serves-it-requires
+    (λ c κs. search needs)
+    (λ c κs. search needs)
     returns-4)

@@ -4,29 +4,17 @@ use borrow.Author.Needs.{needs}
 use Rattle.form_dpc.proofs.timer.flags_pass.Statement.{statement}
 use Rattle.form_dpc.proofs.timer.flags_pass.Tie as tie
 
-get-in-requires : tie.Need-get-in-requires
-get-in-requires c κs = search needs
-
 returns : tie.Need-returns
 unfolding timerFlags
 returns c = simp (← (c .before .get-in .ensures), lt-ltb _ _ (c .if1 .taken))
-
-get-in-requires-2 : tie.Need-get-in-requires-2
-get-in-requires-2 c κs = search needs
 
 returns-2 : tie.Need-returns-2
 unfolding timerFlags
 returns-2 c = simp (← (c .before .before .before .get-in .ensures), ← (c .before .get-in2 .ensures), le-ltb _ _ (c .before .before .if1 .left), lt-ltb _ _ (c .if2 .taken))
 
-get-in-requires-3 : tie.Need-get-in-requires-3
-get-in-requires-3 c κs = search needs
-
 returns-3 : tie.Need-returns-3
 unfolding timerFlags
 returns-3 c = simp (← (c .before .before .before .before .before .get-in .ensures), ← (c .before .before .before .get-in2 .ensures), ← (c .before .get-in3 .ensures), le-ltb _ _ (c .before .before .before .before .if1 .left), le-ltb _ _ (c .before .before .if2 .left), lt-ltb _ _ (c .if3 .taken))
-
-get-in-requires-4 : tie.Need-get-in-requires-4
-get-in-requires-4 c κs = search needs
 
 returns-4 : tie.Need-returns-4
 unfolding timerFlags
@@ -36,11 +24,11 @@ pub flags-pass-spec : {M : Type 1} → statement M
 flags-pass-spec =
     tie.close
     (tie.spec
-    get-in-requires
+    (λ c κs. search needs)
     returns
-    get-in-requires-2
+    (λ c κs. search needs)
     returns-2
-    get-in-requires-3
+    (λ c κs. search needs)
     returns-3
-    get-in-requires-4
+    (λ c κs. search needs)
     returns-4)

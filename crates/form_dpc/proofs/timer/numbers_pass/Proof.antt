@@ -5,22 +5,13 @@ use borrow.Author.Needs.{needs}
 use Rattle.form_dpc.proofs.timer.numbers_pass.Statement.{statement}
 use Rattle.form_dpc.proofs.timer.numbers_pass.Tie as tie
 
-flags-pass-requires : tie.Need-flags-pass-requires
-flags-pass-requires c κs = search needs
-
 returns : tie.Need-returns
 unfolding timerNumbers
 returns c = simp (sym (c .before .flags-pass .ensures) ∙ not-true _ (c .if1 .taken))
 
-times-pass-requires : tie.Need-times-pass-requires
-times-pass-requires c κs = search needs
-
 returns-2 : tie.Need-returns-2
 unfolding timerNumbers
 returns-2 c = simp (sym (c .before .before .before .flags-pass .ensures) ∙ not-false _ (c .before .before .if1 .left), sym (c .before .times-pass .ensures) ∙ not-true _ (c .if2 .taken))
-
-location-passes-requires : tie.Need-location-passes-requires
-location-passes-requires c κs = search needs
 
 returns-3 : tie.Need-returns-3
 unfolding timerNumbers
@@ -30,9 +21,9 @@ pub numbers-pass-spec : {M : Type 1} → statement M
 numbers-pass-spec =
     tie.close
     (tie.spec
-    flags-pass-requires
+    (λ c κs. search needs)
     returns
-    times-pass-requires
+    (λ c κs. search needs)
     returns-2
-    location-passes-requires
+    (λ c κs. search needs)
     returns-3)

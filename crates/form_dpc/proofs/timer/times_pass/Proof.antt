@@ -4,22 +4,13 @@ use borrow.Author.Needs.{needs}
 use Rattle.form_dpc.proofs.timer.times_pass.Statement.{statement}
 use Rattle.form_dpc.proofs.timer.times_pass.Tie as tie
 
-get-in-requires : tie.Need-get-in-requires
-get-in-requires c κs = search needs
-
 returns : tie.Need-returns
 unfolding timerTimes
 returns c = simp (← (c .before .get-in .ensures), lt-ltb _ _ (c .if1 .taken))
 
-get-in-requires-2 : tie.Need-get-in-requires-2
-get-in-requires-2 c κs = search needs
-
 returns-2 : tie.Need-returns-2
 unfolding timerTimes
 returns-2 c = simp (← (c .before .before .before .get-in .ensures), ← (c .before .get-in2 .ensures), le-ltb _ _ (c .before .before .if1 .left), eq-eqb _ _ (c .if2 .taken))
-
-get-requires : tie.Need-get-requires
-get-requires c κs = search needs
 
 returns-3 : tie.Need-returns-3
 unfolding timerTimes
@@ -27,4 +18,4 @@ returns-3 c = simp (← (c .before .before .before .before .get-in .ensures), �
 
 pub times-pass-spec : {M : Type 1} → statement M
 times-pass-spec =
-    tie.close (tie.spec get-in-requires returns get-in-requires-2 returns-2 get-requires returns-3)
+    tie.close (tie.spec (λ c κs. search needs) returns (λ c κs. search needs) returns-2 (λ c κs. search needs) returns-3)

@@ -5,14 +5,8 @@ use borrow.Author.Needs.{needs}
 use Rattle.images.proofs.field.clear.Statement.{statement}
 use Rattle.images.proofs.field.clear.Tie as tie
 
-put-number-requires : tie.Need-put-number-requires
-put-number-requires c κs = search needs
-
-same-length : tie.Need-same-length
-same-length c = search needs
-
 returns : tie.Need-returns
 returns c = cc (zeros (c .before .before .before .before .before .args .count))
 
 pub clear-spec : {M : Type 1} → statement M
-clear-spec = tie.close (tie.spec put-number-requires same-length returns)
+clear-spec = tie.close (tie.spec (λ c κs. search needs) (λ c. search needs) returns)

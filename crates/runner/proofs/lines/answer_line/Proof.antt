@@ -8,34 +8,6 @@ use Rattle.runner.proofs.session.perform.Reads as perform-reads
 use Rattle.script.proofs.read_line.Reads as read-line-reads
 use Rattle.script_print.proofs.write_answer.Reads as write-answer-reads
 
--- src/lines.rt:43:9
-read-line-requires : tie.Need-read-line-requires
-read-line-requires c κs = search needs
-
--- src/lines.rt:44:9
-perform-requires : tie.Need-perform-requires
-perform-requires c κs = search needs
-
--- src/lines.rt:47:9
-write-answer-requires : tie.Need-write-answer-requires
-write-answer-requires c κs = search needs
-
--- src/lines.rt:31:1
-same-length : tie.Need-same-length
-same-length c = search needs
-
--- src/lines.rt:31:1
-same-length-2 : tie.Need-same-length-2
-same-length-2 c = search needs
-
--- src/lines.rt:31:1
-same-length-3 : tie.Need-same-length-3
-same-length-3 c = search needs
-
--- src/lines.rt:31:1
-same-length-4 : tie.Need-same-length-4
-same-length-4 c = search needs
-
 -- src/lines.rt:31:1
 returns : tie.Need-returns
 unfolding answered
@@ -45,11 +17,11 @@ pub answer-line-spec : {M : Type 1} → statement M
 answer-line-spec =
     tie.close
     (tie.spec
-    read-line-requires
-    perform-requires
-    write-answer-requires
-    same-length
-    same-length-2
-    same-length-3
-    same-length-4
+    (λ c κs. search needs)
+    (λ c κs. search needs)
+    (λ c κs. search needs)
+    (λ c. search needs)
+    (λ c. search needs)
+    (λ c. search needs)
+    (λ c. search needs)
     returns)

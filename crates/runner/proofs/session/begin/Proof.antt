@@ -8,21 +8,9 @@ use Rattle.runner.proofs.session.begin.Lts as lts
 use Rattle.runner.proofs.session.is_done.Reads as is-done-reads
 use Rattle.scheduler.proofs.changes.open.Reads as open-reads
 
--- src/session.rt:254:9
-open-requires : tie.Need-open-requires
-open-requires c κs = search needs
-
--- src/session.rt:259:21
-is-done-requires : tie.Need-is-done-requires
-is-done-requires c κs = search needs
-
--- src/session.rt:250:1
-same-length : tie.Need-same-length
-same-length c = search needs
-
 -- src/session.rt:250:1
 returns : tie.Need-returns
 returns c = (simp (← (ap (λ (o : Outcome). o .answer) (c .before .before .before .before .«open» .ensures)), c .is-done .ensures), ap (λ (o : Outcome). o .words) (c .before .before .before .before .«open» .ensures))
 
 pub begin-spec : {M : Type 1} → statement M
-begin-spec = tie.close (tie.spec open-requires is-done-requires same-length returns)
+begin-spec = tie.close (tie.spec (λ c κs. search needs) (λ c κs. search needs) (λ c. search needs) returns)

@@ -6,18 +6,6 @@ use Rattle.runner.proofs.session.done_answer.Reads as reads
 use Rattle.runner.proofs.session.done_answer.Lts as lts
 use Rattle.runner.proofs.session.error_number.Reads as error-number-reads
 
--- src/session.rt:84:21
-enum-told : tie.Need-enum-told
-enum-told c = search needs
-
--- src/session.rt:85:19
-enum-known-done : tie.Need-enum-known-done
-enum-known-done c = search needs
-
--- src/session.rt:85:43
-error-number-requires : tie.Need-error-number-requires
-error-number-requires c κs = search needs
-
 -- src/session.rt:80:1
 returns : tie.Need-returns
 unfolding doneAnswer
@@ -30,4 +18,4 @@ returns-2 c = simp (c .before .before .done .given .1) (cc (c .error-number .ens
 
 pub done-answer-spec : {M : Type 1} → statement M
 done-answer-spec =
-    tie.close (tie.spec enum-told enum-known-done error-number-requires returns returns-2)
+    tie.close (tie.spec (λ c. search needs) (λ c. search needs) (λ c κs. search needs) returns returns-2)

@@ -7,10 +7,6 @@ use Rattle.runner.proofs.session.is_done.Reads as reads
 use Rattle.runner.proofs.session.is_done.Lts as lts
 
 -- src/session.rt:244:9
-enum-told : tie.Need-enum-told
-enum-told c = search needs
-
--- src/session.rt:244:9
 returns : tie.Need-returns
 unfolding accepts
 returns c = simp (c .enum-told .given .1)
@@ -20,4 +16,4 @@ returns-2 : tie.Need-returns-2
 returns-2 c = not-done (c .before .args .a) (c .match .keys2)
 
 pub is-done-spec : {M : Type 1} → statement M
-is-done-spec = tie.close (tie.spec enum-told returns returns-2)
+is-done-spec = tie.close (tie.spec (λ c. search needs) returns returns-2)

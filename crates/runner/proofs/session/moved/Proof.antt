@@ -9,17 +9,9 @@ use Rattle.runner.proofs.session.done_answer.Reads as done-answer-reads
 use Rattle.runner.proofs.session.unchanged.Reads as unchanged-reads
 
 -- src/session.rt:120:9
-unchanged-requires : tie.Need-unchanged-requires
-unchanged-requires c κs = search needs
-
--- src/session.rt:120:9
 returns : tie.Need-returns
 unfolding moved
 returns c = simp (not-true (c .before .before .before .args .s .timed) (c .before .if1 .taken)) (c .unchanged .ensures)
-
--- src/session.rt:125:17
-done-answer-requires : tie.Need-done-answer-requires
-done-answer-requires c κs = search needs
 
 -- src/session.rt:116:1
 returns-2 : tie.Need-returns-2
@@ -27,4 +19,4 @@ unfolding moved
 returns-2 c = simp (not-false (c .before .before .before .before .args .s .timed) (c .before .before .if1 .left)) (cc (c .done-answer .ensures))
 
 pub moved-spec : {M : Type 1} → statement M
-moved-spec = tie.close (tie.spec unchanged-requires returns done-answer-requires returns-2)
+moved-spec = tie.close (tie.spec (λ c κs. search needs) returns (λ c κs. search needs) returns-2)

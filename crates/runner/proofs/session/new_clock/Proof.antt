@@ -7,22 +7,6 @@ use Rattle.runner.proofs.session.new_clock.Lts as lts
 use Rattle.runner.proofs.session.error_number.Reads as error-number-reads
 use Rattle.runner.proofs.session.unchanged.Reads as unchanged-reads
 
--- src/session.rt:103:21
-enum-known-made : tie.Need-enum-known-made
-enum-known-made c = search needs
-
--- src/session.rt:111:22
-enum-known-made-2 : tie.Need-enum-known-made-2
-enum-known-made-2 c = search needs
-
--- src/session.rt:111:59
-error-number-requires : tie.Need-error-number-requires
-error-number-requires c κs = search needs
-
--- src/session.rt:111:30
-unchanged-requires : tie.Need-unchanged-requires
-unchanged-requires c κs = search needs
-
 -- src/session.rt:99:1
 returns : tie.Need-returns
 unfolding newClock
@@ -37,9 +21,9 @@ pub new-clock-spec : {M : Type 1} → statement M
 new-clock-spec =
     tie.close
     (tie.spec
-    enum-known-made
-    enum-known-made-2
-    error-number-requires
-    unchanged-requires
+    (λ c. search needs)
+    (λ c. search needs)
+    (λ c κs. search needs)
+    (λ c κs. search needs)
     returns
     returns-2)

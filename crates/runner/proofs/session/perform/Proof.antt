@@ -10,42 +10,14 @@ use Rattle.runner.proofs.session.go_on.Reads as go-on-reads
 use Rattle.runner.proofs.session.unchanged.Reads as unchanged-reads
 
 -- src/session.rt:271:9
-go-on-requires : tie.Need-go-on-requires
-go-on-requires c κs = search needs
-
--- src/session.rt:271:9
-same-length : tie.Need-same-length
-same-length c = search needs
-
--- src/session.rt:271:9
-same-length-2 : tie.Need-same-length-2
-same-length-2 c = search needs
-
--- src/session.rt:271:9
 returns : tie.Need-returns
 unfolding performed
 returns c = simp (c .before .before .before .before .before .before .before .if1 .taken) (c .before .before .before .before .go-on .ensures)
-
--- src/session.rt:273:26
-enum-known-c : tie.Need-enum-known-c
-enum-known-c c = search needs
-
--- src/session.rt:274:9
-begin-requires : tie.Need-begin-requires
-begin-requires c κs = search needs
-
--- src/session.rt:274:9
-same-length-3 : tie.Need-same-length-3
-same-length-3 c = search needs
 
 -- src/session.rt:274:9
 returns-2 : tie.Need-returns-2
 unfolding performed asked begun
 returns-2 c = simp (c .before .before .before .before .before .before .before .if1 .left, c .before .before .before .before .before .c .given .1) (cc (c .before .before .begin .ensures .0, c .before .before .begin .ensures .1))
-
--- src/session.rt:276:5
-unchanged-requires : tie.Need-unchanged-requires
-unchanged-requires c κs = search needs
 
 -- src/session.rt:267:1
 returns-3 : tie.Need-returns-3
@@ -56,13 +28,13 @@ pub perform-spec : {M : Type 1} → statement M
 perform-spec =
     tie.close
     (tie.spec
-    go-on-requires
-    same-length
-    same-length-2
+    (λ c κs. search needs)
+    (λ c. search needs)
+    (λ c. search needs)
     returns
-    enum-known-c
-    begin-requires
-    same-length-3
+    (λ c. search needs)
+    (λ c κs. search needs)
+    (λ c. search needs)
     returns-2
-    unchanged-requires
+    (λ c κs. search needs)
     returns-3)

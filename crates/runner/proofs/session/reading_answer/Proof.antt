@@ -6,18 +6,6 @@ use Rattle.runner.proofs.session.reading_answer.Reads as reads
 use Rattle.runner.proofs.session.reading_answer.Lts as lts
 use Rattle.runner.proofs.session.error_number.Reads as error-number-reads
 
--- src/session.rt:93:21
-enum-known-r : tie.Need-enum-known-r
-enum-known-r c = search needs
-
--- src/session.rt:94:22
-enum-known-r-2 : tie.Need-enum-known-r-2
-enum-known-r-2 c = search needs
-
--- src/session.rt:94:46
-error-number-requires : tie.Need-error-number-requires
-error-number-requires c κs = search needs
-
 -- src/session.rt:89:1
 returns : tie.Need-returns
 unfolding readingAnswer
@@ -30,4 +18,4 @@ returns-2 c = simp (c .before .before .r2 .given .1) (cc (c .error-number .ensur
 
 pub reading-answer-spec : {M : Type 1} → statement M
 reading-answer-spec =
-    tie.close (tie.spec enum-known-r enum-known-r-2 error-number-requires returns returns-2)
+    tie.close (tie.spec (λ c. search needs) (λ c. search needs) (λ c κs. search needs) returns returns-2)

@@ -5,14 +5,6 @@ use Rattle.runner.proofs.session.sequence_of.Tie as tie
 use Rattle.runner.proofs.session.sequence_of.Reads as reads
 use Rattle.runner.proofs.session.sequence_of.Lts as lts
 
--- src/session.rt:150:29
-enum-known-a : tie.Need-enum-known-a
-enum-known-a c = search needs
-
--- src/session.rt:151:26
-enum-known-a-2 : tie.Need-enum-known-a-2
-enum-known-a-2 c = search needs
-
 -- src/session.rt:146:1
 returns : tie.Need-returns
 unfolding sequenceOf
@@ -24,4 +16,4 @@ unfolding sequenceOf
 returns-2 c = simp (c .before .a2 .given .1)
 
 pub sequence-of-spec : {M : Type 1} → statement M
-sequence-of-spec = tie.close (tie.spec enum-known-a enum-known-a-2 returns returns-2)
+sequence-of-spec = tie.close (tie.spec (λ c. search needs) (λ c. search needs) returns returns-2)

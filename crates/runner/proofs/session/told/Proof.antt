@@ -9,21 +9,9 @@ use Rattle.runner.proofs.session.reading_answer.Reads as reading-answer
 use Rattle.runner.proofs.session.unchanged.Reads as unchanged-reads
 
 -- src/session.rt:138:9
-unchanged-requires : tie.Need-unchanged-requires
-unchanged-requires c κs = search needs
-
--- src/session.rt:138:9
 returns : tie.Need-returns
 unfolding told
 returns c = simp (not-true (c .before .before .before .args .s .timed) (c .before .if1 .taken)) (c .unchanged .ensures)
-
--- src/session.rt:140:18
-reading-answer-requires : tie.Need-reading-answer-requires
-reading-answer-requires c κs = search needs
-
--- src/session.rt:140:5
-unchanged-requires-2 : tie.Need-unchanged-requires-2
-unchanged-requires-2 c κs = search needs
 
 -- src/session.rt:134:1
 returns-2 : tie.Need-returns-2
@@ -33,4 +21,4 @@ returns-2 c = simp (not-false (c .before .before .before .before .args .s .timed
 pub told-spec : {M : Type 1} → statement M
 told-spec =
     tie.close
-    (tie.spec unchanged-requires returns reading-answer-requires unchanged-requires-2 returns-2)
+    (tie.spec (λ c κs. search needs) returns (λ c κs. search needs) (λ c κs. search needs) returns-2)

@@ -18,18 +18,10 @@ returns c = simp (lt-ltb _ _ (c .if1 .taken))
 slice-aggregate-wait : tie.Need-slice-aggregate-wait
 slice-aggregate-wait c = simp length-take (omega arith)
 
--- src/session.rt:170:5
-wait-requires : tie.Need-wait-requires
-wait-requires c κs = search needs
-
--- src/session.rt:156:1
-same-length : tie.Need-same-length
-same-length c = search needs
-
 -- src/session.rt:156:1
 returns-2 : tie.Need-returns-2
 unfolding waited onWords
 returns-2 c = simp (le-ltb _ _ (c .before .before .before .before .before .if1 .left)) (c .before .before .wait .ensures)
 
 pub wait-spec : {M : Type 1} → statement M
-wait-spec = tie.close (tie.spec returns slice-aggregate-wait wait-requires same-length returns-2)
+wait-spec = tie.close (tie.spec returns slice-aggregate-wait (λ c κs. search needs) (λ c. search needs) returns-2)

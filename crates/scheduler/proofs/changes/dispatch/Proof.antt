@@ -6,24 +6,9 @@ use borrow.Author.Needs.{needs}
 use Rattle.scheduler.proofs.changes.dispatch.Statement.{statement}
 use Rattle.scheduler.proofs.changes.dispatch.Tie as tie
 
-in-form-requires : tie.Need-in-form-requires
-in-form-requires c κs = search needs
-
-same-length : tie.Need-same-length
-same-length c = search needs
-
 returns : tie.Need-returns
 unfolding called guardedDispatch
 returns c = simp (sym (c .before .in-form .ensures) ∙ not-true _ (c .if1 .taken))
-
-dispatch-requires : tie.Need-dispatch-requires
-dispatch-requires c κs = search needs
-
-same-length-2 : tie.Need-same-length-2
-same-length-2 c = search needs
-
-same-length-3 : tie.Need-same-length-3
-same-length-3 c = search needs
 
 returns-2 : tie.Need-returns-2
 unfolding called guardedDispatch
@@ -33,10 +18,10 @@ pub dispatch-spec : {M : Type 1} → statement M
 dispatch-spec =
     tie.close
     (tie.spec
-    in-form-requires
-    same-length
+    (λ c κs. search needs)
+    (λ c. search needs)
     returns
-    dispatch-requires
-    same-length-2
-    same-length-3
+    (λ c κs. search needs)
+    (λ c. search needs)
+    (λ c. search needs)
     returns-2)

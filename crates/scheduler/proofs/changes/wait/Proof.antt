@@ -6,31 +6,13 @@ use borrow.Author.Needs.{needs}
 use Rattle.scheduler.proofs.changes.wait.Statement.{statement}
 use Rattle.scheduler.proofs.changes.wait.Tie as tie
 
-in-form-requires : tie.Need-in-form-requires
-in-form-requires c κs = search needs
-
-same-length : tie.Need-same-length
-same-length c = search needs
-
 returns : tie.Need-returns
 unfolding called guarded
 returns c = simp (sym (c .before .in-form .ensures) ∙ not-true _ (c .if1 .taken))
 
-wait-requires : tie.Need-wait-requires
-wait-requires c κs = search needs
-
-same-length-2 : tie.Need-same-length-2
-same-length-2 c = search needs
-
 returns-2 : tie.Need-returns-2
 unfolding called guarded
 returns-2 c = simp (sym (c .before .before .before .before .before .before .in-form .ensures) ∙ not-false _ (c .before .before .before .before .before .if1 .left), c .before .before .before .before .if2 .taken) (cc)
-
-wait-requires-2 : tie.Need-wait-requires-2
-wait-requires-2 c κs = search needs
-
-same-length-3 : tie.Need-same-length-3
-same-length-3 c = search needs
 
 returns-3 : tie.Need-returns-3
 unfolding called guarded
@@ -40,12 +22,12 @@ pub wait-spec : {M : Type 1} → statement M
 wait-spec =
     tie.close
     (tie.spec
-    in-form-requires
-    same-length
+    (λ c κs. search needs)
+    (λ c. search needs)
     returns
-    wait-requires
-    same-length-2
+    (λ c κs. search needs)
+    (λ c. search needs)
     returns-2
-    wait-requires-2
-    same-length-3
+    (λ c κs. search needs)
+    (λ c. search needs)
     returns-3)

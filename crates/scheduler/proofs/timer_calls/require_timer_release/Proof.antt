@@ -6,15 +6,9 @@ use borrow.Author.Needs.{needs}
 use Rattle.scheduler.proofs.timer_calls.require_timer_release.Statement.{statement}
 use Rattle.scheduler.proofs.timer_calls.require_timer_release.Tie as tie
 
-in-form-requires : tie.Need-in-form-requires
-in-form-requires c κs = search needs
-
 returns : tie.Need-returns
 unfolding called readable
 returns c = simp (sym (c .before .in-form .ensures) ∙ not-true _ (c .if1 .taken))
-
-require-timer-release-requires : tie.Need-require-timer-release-requires
-require-timer-release-requires c κs = search needs
 
 returns-2 : tie.Need-returns-2
 unfolding called readable
@@ -22,4 +16,4 @@ returns-2 c = simp (sym (c .before .before .in-form .ensures) ∙ not-false _ (c
 
 pub require-timer-release-spec : {M : Type 1} → statement M
 require-timer-release-spec =
-    tie.close (tie.spec in-form-requires returns require-timer-release-requires returns-2)
+    tie.close (tie.spec (λ c κs. search needs) returns (λ c κs. search needs) returns-2)

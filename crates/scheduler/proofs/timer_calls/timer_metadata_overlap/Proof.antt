@@ -6,15 +6,9 @@ use borrow.Author.Needs.{needs}
 use Rattle.scheduler.proofs.timer_calls.timer_metadata_overlap.Statement.{statement}
 use Rattle.scheduler.proofs.timer_calls.timer_metadata_overlap.Tie as tie
 
-in-form-requires : tie.Need-in-form-requires
-in-form-requires c κs = search needs
-
 returns : tie.Need-returns
 unfolding called readable
 returns c = simp (sym (c .before .in-form .ensures) ∙ not-true _ (c .if1 .taken))
-
-timer-metadata-overlap-requires : tie.Need-timer-metadata-overlap-requires
-timer-metadata-overlap-requires c κs = search needs
 
 returns-2 : tie.Need-returns-2
 unfolding called readable
@@ -22,4 +16,4 @@ returns-2 c = simp (sym (c .before .before .in-form .ensures) ∙ not-false _ (c
 
 pub timer-metadata-overlap-spec : {M : Type 1} → statement M
 timer-metadata-overlap-spec =
-    tie.close (tie.spec in-form-requires returns timer-metadata-overlap-requires returns-2)
+    tie.close (tie.spec (λ c κs. search needs) returns (λ c κs. search needs) returns-2)

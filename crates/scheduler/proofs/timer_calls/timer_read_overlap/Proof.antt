@@ -6,15 +6,9 @@ use borrow.Author.Needs.{needs}
 use Rattle.scheduler.proofs.timer_calls.timer_read_overlap.Statement.{statement}
 use Rattle.scheduler.proofs.timer_calls.timer_read_overlap.Tie as tie
 
-in-form-requires : tie.Need-in-form-requires
-in-form-requires c κs = search needs
-
 returns : tie.Need-returns
 unfolding called readable
 returns c = simp (sym (c .before .in-form .ensures) ∙ not-true _ (c .if1 .taken))
-
-timer-read-overlap-requires : tie.Need-timer-read-overlap-requires
-timer-read-overlap-requires c κs = search needs
 
 returns-2 : tie.Need-returns-2
 unfolding called readable
@@ -22,4 +16,4 @@ returns-2 c = simp (sym (c .before .before .in-form .ensures) ∙ not-false _ (c
 
 pub timer-read-overlap-spec : {M : Type 1} → statement M
 timer-read-overlap-spec =
-    tie.close (tie.spec in-form-requires returns timer-read-overlap-requires returns-2)
+    tie.close (tie.spec (λ c κs. search needs) returns (λ c κs. search needs) returns-2)

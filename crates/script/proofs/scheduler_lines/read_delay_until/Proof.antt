@@ -6,15 +6,6 @@ use borrow.Author.Needs.{needs}
 use Rattle.script.proofs.scheduler_lines.read_delay_until.Statement.{statement}
 use Rattle.script.proofs.scheduler_lines.read_delay_until.Tie as tie
 
-two-numbers-requires : tie.Need-two-numbers-requires
-two-numbers-requires c κs = search needs
-
-enum-told : tie.Need-enum-told
-enum-told c = search needs
-
-enum-known-deadline : tie.Need-enum-known-deadline
-enum-known-deadline c = search needs
-
 cast-t7 : tie.Need-cast-t7
 cast-t7 c = record { fits = omega (arith, last-within _ 255 _ _ _ (sym (c .before .deadline .given .1) ∙ c .before .before .before .two-numbers .ensures)) }
 
@@ -29,4 +20,4 @@ returns-2 c = simp (sym (c .before .before .before .two-numbers .ensures) ∙ c 
 pub read-delay-until-spec : {M : Type 1} → statement M
 read-delay-until-spec =
     tie.close
-    (tie.spec two-numbers-requires enum-told enum-known-deadline cast-t7 returns returns-2)
+    (tie.spec (λ c κs. search needs) (λ c. search needs) (λ c. search needs) cast-t7 returns returns-2)

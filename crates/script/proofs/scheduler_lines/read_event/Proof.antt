@@ -5,24 +5,9 @@ use borrow.Author.Needs.{needs}
 use Rattle.script.proofs.scheduler_lines.read_event.Statement.{statement}
 use Rattle.script.proofs.scheduler_lines.read_event.Tie as tie
 
-number-at-requires : tie.Need-number-at-requires
-number-at-requires c κs = search needs
-
-enum-known-key : tie.Need-enum-known-key
-enum-known-key c = search needs
-
-enum-told : tie.Need-enum-told
-enum-told c = search needs
-
 returns : tie.Need-returns
 unfolding eventLine withOne
 returns c = simp (sym (c .before .before .number-at .ensures) ∙ c .enum-told .given .1)
-
-behind-requires : tie.Need-behind-requires
-behind-requires c κs = search needs
-
-read-flags-requires : tie.Need-read-flags-requires
-read-flags-requires c κs = search needs
 
 returns-2 : tie.Need-returns-2
 unfolding eventLine withOne
@@ -32,10 +17,10 @@ pub read-event-spec : {M : Type 1} → statement M
 read-event-spec =
     tie.close
     (tie.spec
-    number-at-requires
-    enum-known-key
-    enum-told
+    (λ c κs. search needs)
+    (λ c. search needs)
+    (λ c. search needs)
     returns
-    behind-requires
-    read-flags-requires
+    (λ c κs. search needs)
+    (λ c κs. search needs)
     returns-2)

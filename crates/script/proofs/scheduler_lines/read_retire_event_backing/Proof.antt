@@ -4,15 +4,6 @@ use borrow.Author.Needs.{needs}
 use Rattle.script.proofs.scheduler_lines.read_retire_event_backing.Statement.{statement}
 use Rattle.script.proofs.scheduler_lines.read_retire_event_backing.Tie as tie
 
-three-numbers-requires : tie.Need-three-numbers-requires
-three-numbers-requires c κs = search needs
-
-enum-told : tie.Need-enum-told
-enum-told c = search needs
-
-enum-known-base : tie.Need-enum-known-base
-enum-known-base c = search needs
-
 returns : tie.Need-returns
 unfolding withThree
 returns c = simp (sym (c .before .before .three-numbers .ensures) ∙ c .enum-told .given .1)
@@ -23,4 +14,4 @@ returns-2 c = simp (sym (c .before .before .before .three-numbers .ensures) ∙ 
 
 pub read-retire-event-backing-spec : {M : Type 1} → statement M
 read-retire-event-backing-spec =
-    tie.close (tie.spec three-numbers-requires enum-told enum-known-base returns returns-2)
+    tie.close (tie.spec (λ c κs. search needs) (λ c. search needs) (λ c. search needs) returns returns-2)

@@ -4,19 +4,13 @@ use borrow.Author.Needs.{needs}
 use Rattle.script.proofs.wait.item_at.Statement.{statement}
 use Rattle.script.proofs.wait.item_at.Tie as tie
 
-kind-at-requires : tie.Need-kind-at-requires
-kind-at-requires c κs = search needs
-
 returns : tie.Need-returns
 unfolding itemOf
 returns c = simp (eq-eqb _ _ (c .before .if1 .taken)) (c .kind-at .ensures)
-
-number-at-requires : tie.Need-number-at-requires
-number-at-requires c κs = search needs
 
 returns-2 : tie.Need-returns-2
 unfolding itemOf
 returns-2 c = simp (ne-eqb _ _ (c .before .if1 .left)) (c .number-at .ensures)
 
 pub item-at-spec : {M : Type 1} → statement M
-item-at-spec = tie.close (tie.spec kind-at-requires returns number-at-requires returns-2)
+item-at-spec = tie.close (tie.spec (λ c κs. search needs) returns (λ c κs. search needs) returns-2)

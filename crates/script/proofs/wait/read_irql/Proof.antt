@@ -6,33 +6,9 @@ use borrow.Author.Needs.{needs}
 use Rattle.script.proofs.wait.read_irql.Statement.{statement}
 use Rattle.script.proofs.wait.read_irql.Tie as tie
 
-number-at-requires : tie.Need-number-at-requires
-number-at-requires c κs = search needs
-
-enum-known-irql : tie.Need-enum-known-irql
-enum-known-irql c = search needs
-
-enum-told : tie.Need-enum-told
-enum-told c = search needs
-
 returns : tie.Need-returns
 unfolding waitFrom withIrql
 returns c = simp (sym (c .before .before .number-at .ensures) ∙ c .enum-told .given .1)
-
-behind-requires : tie.Need-behind-requires
-behind-requires c κs = search needs
-
-read-pairs-requires : tie.Need-read-pairs-requires
-read-pairs-requires c κs = search needs
-
-enum-known-count : tie.Need-enum-known-count
-enum-known-count c = search needs
-
-enum-told-2 : tie.Need-enum-told-2
-enum-told-2 c = search needs
-
-same-length : tie.Need-same-length
-same-length c = search needs
 
 returns-2 : tie.Need-returns-2
 unfolding waitFrom withIrql waitCommand
@@ -40,9 +16,6 @@ returns-2 c = simp (← (c .before .before .before .before .before .before .behi
 
 cast-t14 : tie.Need-cast-t14
 cast-t14 c = record { fits = omega (arith, within 255 _ _ (sym (c .before .before .before .before .before .before .before .before .before .irql .given .1) ∙ c .before .before .before .before .before .before .before .before .before .before .before .number-at .ensures)) }
-
-same-length-2 : tie.Need-same-length-2
-same-length-2 c = search needs
 
 returns-3 : tie.Need-returns-3
 unfolding waitFrom withIrql waitCommand
@@ -52,16 +25,16 @@ pub read-irql-spec : {M : Type 1} → statement M
 read-irql-spec =
     tie.close
     (tie.spec
-    number-at-requires
-    enum-known-irql
-    enum-told
+    (λ c κs. search needs)
+    (λ c. search needs)
+    (λ c. search needs)
     returns
-    behind-requires
-    read-pairs-requires
-    enum-known-count
-    enum-told-2
-    same-length
+    (λ c κs. search needs)
+    (λ c κs. search needs)
+    (λ c. search needs)
+    (λ c. search needs)
+    (λ c. search needs)
     returns-2
     cast-t14
-    same-length-2
+    (λ c. search needs)
     returns-3)

@@ -5,9 +5,6 @@ use borrow.Author.Needs.{needs}
 use Rattle.script_lex.proofs.arguments.bare.Statement.{statement}
 use Rattle.script_lex.proofs.arguments.bare.Tie as tie
 
-is-end-requires : tie.Need-is-end-requires
-is-end-requires c κs = search needs
-
 returns : tie.Need-returns
 unfolding bareLine
 returns c = simp (sym (c .before .is-end .ensures) ∙ not-true _ (c .if1 .taken))
@@ -17,4 +14,4 @@ unfolding bareLine
 returns-2 c = simp (sym (c .before .is-end .ensures) ∙ not-false _ (c .if1 .left))
 
 pub bare-spec : {M : Type 1} → statement M
-bare-spec = tie.close (tie.spec is-end-requires returns returns-2)
+bare-spec = tie.close (tie.spec (λ c κs. search needs) returns returns-2)

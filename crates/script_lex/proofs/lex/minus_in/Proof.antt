@@ -6,15 +6,6 @@ use borrow.Author.Needs.{needs}
 use Rattle.script_lex.proofs.lex.minus_in.Statement.{statement}
 use Rattle.script_lex.proofs.lex.minus_in.Tie as tie
 
-number-in-requires : tie.Need-number-in-requires
-number-in-requires c κs = search needs
-
-enum-told : tie.Need-enum-told
-enum-told c = search needs
-
-enum-known-n : tie.Need-enum-known-n
-enum-known-n c = search needs
-
 negated-requires : tie.Need-negated-requires
 negated-requires c κs = within 2147483648 _ _ (sym (c .before .n .given .1) ∙ c .before .before .before .number-in .ensures)
 
@@ -30,4 +21,4 @@ returns-2 c = let e = sym (c .before .before .n .given .1) ∙ c .before .before
 pub minus-in-spec : {M : Type 1} → statement M
 minus-in-spec =
     tie.close
-    (tie.spec number-in-requires enum-told enum-known-n negated-requires returns returns-2)
+    (tie.spec (λ c κs. search needs) (λ c. search needs) (λ c. search needs) negated-requires returns returns-2)

@@ -3,9 +3,6 @@ use borrow.Author.Needs.{needs}
 use Rattle.script_lex.proofs.lex.negated.Statement.{statement}
 use Rattle.script_lex.proofs.lex.negated.Tie as tie
 
-cast-result : tie.Need-cast-result
-cast-result c = search needs
-
 sub-result : tie.Need-sub-result
 sub-result c = difference-fits (c .args .n) (c .pre)
 
@@ -16,4 +13,4 @@ returns : tie.Need-returns
 returns c = cast-is (c .args .n) (c .pre)
 
 pub negated-spec : {M : Type 1} → statement M
-negated-spec = tie.close (tie.spec cast-result sub-result cast-result-2 returns)
+negated-spec = tie.close (tie.spec (λ c. search needs) sub-result cast-result-2 returns)

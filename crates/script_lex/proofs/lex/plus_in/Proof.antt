@@ -6,15 +6,6 @@ use borrow.Author.Needs.{needs}
 use Rattle.script_lex.proofs.lex.plus_in.Statement.{statement}
 use Rattle.script_lex.proofs.lex.plus_in.Tie as tie
 
-number-in-requires : tie.Need-number-in-requires
-number-in-requires c κs = search needs
-
-enum-told : tie.Need-enum-told
-enum-told c = search needs
-
-enum-known-n : tie.Need-enum-known-n
-enum-known-n c = search needs
-
 cast-t7 : tie.Need-cast-t7
 cast-t7 c = plus-fits _ (within 2147483647 _ _ (sym (c .before .n .given .1) ∙ c .before .before .before .number-in .ensures))
 
@@ -29,4 +20,4 @@ returns-2 c = let e = sym (c .before .n .given .1) ∙ c .before .before .before
 
 pub plus-in-spec : {M : Type 1} → statement M
 plus-in-spec =
-    tie.close (tie.spec number-in-requires enum-told enum-known-n cast-t7 returns returns-2)
+    tie.close (tie.spec (λ c κs. search needs) (λ c. search needs) (λ c. search needs) cast-t7 returns returns-2)

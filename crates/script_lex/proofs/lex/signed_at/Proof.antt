@@ -7,12 +7,6 @@ use borrow.Author.Needs.{needs}
 use Rattle.script_lex.proofs.lex.signed_at.Statement.{statement}
 use Rattle.script_lex.proofs.lex.signed_at.Tie as tie
 
-word-start-requires : tie.Need-word-start-requires
-word-start-requires c κs = search needs
-
-word-end-requires : tie.Need-word-end-requires
-word-end-requires c κs = search needs
-
 returns : tie.Need-returns
 unfolding signedOf numberOf plus
 returns c = simp (out-is (now (c .before .before .before .before .args .line)) (c .before .before .before .before .args .at) (c .before .before .word-start .result) (c .before .word-end .result) (c .before .before .word-start .ensures) (c .before .word-end .ensures) (c .if1 .taken))
@@ -20,20 +14,8 @@ returns c = simp (out-is (now (c .before .before .before .before .args .line)) (
 returns-2 : tie.Need-returns-2
 returns-2 c = simp (first-is (now (c .before .before .before .before .before .args .line)) (c .before .before .before .before .before .args .at) (c .before .before .before .word-start .result) (c .before .before .word-end .result) (c .before .before .before .word-start .ensures) (c .before .before .word-end .ensures)) (sym (signed-none (c .before .before .before .word-start .result) (c .before .before .word-end .result) (now (c .before .before .before .before .before .args .line)) (c .if2 .taken)))
 
-shared-slice-read-if3 : tie.Need-shared-slice-read-if3
-shared-slice-read-if3 c = search needs
-
-add-minus-in : tie.Need-add-minus-in
-add-minus-in c = search needs
-
-minus-in-requires : tie.Need-minus-in-requires
-minus-in-requires c κs = search needs
-
 returns-3 : tie.Need-returns-3
 returns-3 c = simp (first-is (now (c .before .before .before .before .before .before .before .before .args .line)) (c .before .before .before .before .before .before .before .before .args .at) (c .before .before .before .before .before .before .word-start .result) (c .before .before .before .before .before .word-end .result) (c .before .before .before .before .before .before .word-start .ensures) (c .before .before .before .before .before .word-end .ensures)) (c .minus-in .ensures ∙ sym (signed-minus (c .before .before .before .before .before .before .word-start .result) (c .before .before .before .before .before .word-end .result) (now (c .before .before .before .before .before .before .before .before .args .line)) (c .before .before .before .if2 .left) (c .before .before .before .before .if1 .left) (c .before .if3 .taken)))
-
-plus-in-requires : tie.Need-plus-in-requires
-plus-in-requires c κs = search needs
 
 returns-4 : tie.Need-returns-4
 returns-4 c = simp (first-is (now (c .before .before .before .before .before .before .before .before .args .line)) (c .before .before .before .before .before .before .before .before .args .at) (c .before .before .before .before .before .before .word-start .result) (c .before .before .before .before .before .word-end .result) (c .before .before .before .before .before .before .word-start .ensures) (c .before .before .before .before .before .word-end .ensures)) (c .plus-in .ensures ∙ sym (signed-plus (c .before .before .before .before .before .before .word-start .result) (c .before .before .before .before .before .word-end .result) (now (c .before .before .before .before .before .before .before .before .args .line)) (c .before .before .before .if2 .left) (c .before .before .before .before .if1 .left) (c .before .if3 .left)))
@@ -42,13 +24,13 @@ pub signed-at-spec : {M : Type 1} → statement M
 signed-at-spec =
     tie.close
     (tie.spec
-    word-start-requires
-    word-end-requires
+    (λ c κs. search needs)
+    (λ c κs. search needs)
     returns
     returns-2
-    shared-slice-read-if3
-    add-minus-in
-    minus-in-requires
+    (λ c. search needs)
+    (λ c. search needs)
+    (λ c κs. search needs)
     returns-3
-    plus-in-requires
+    (λ c κs. search needs)
     returns-4)

@@ -18,15 +18,9 @@ returns-3 : tie.Need-returns-3
 unfolding takes
 returns-3 c = simp (le-leb _ _ (c .before .before .if1 .left), le-leb _ _ (c .before .if2 .left), too-large (c .before .before .before .args .limit) (c .before .before .before .args .n) (c .before .before .before .args .b) (omega arith) (c .if3 .taken))
 
-mul-tens : tie.Need-mul-tens
-mul-tens c = search needs
-
 returns-4 : tie.Need-returns-4
 unfolding takes
 returns-4 c = simp (le-leb _ _ (c .before .before .before .if1 .left), le-leb _ _ (c .before .before .if2 .left), over (c .before .before .before .before .args .limit) (c .before .before .before .before .args .n) (c .before .before .before .before .args .b) (c .if4 .taken))
-
-cast-digit : tie.Need-cast-digit
-cast-digit c = search needs
 
 returns-5 : tie.Need-returns-5
 unfolding takes
@@ -34,4 +28,4 @@ returns-5 c = simp (le-leb _ _ (c .before .before .before .if1 .left), le-leb _ 
 
 pub takes-spec : {M : Type 1} → statement M
 takes-spec =
-    tie.close (tie.spec returns returns-2 returns-3 mul-tens returns-4 cast-digit returns-5)
+    tie.close (tie.spec returns returns-2 returns-3 (λ c. search needs) returns-4 (λ c. search needs) returns-5)

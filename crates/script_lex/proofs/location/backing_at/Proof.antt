@@ -4,30 +4,9 @@ use borrow.Author.Needs.{needs}
 use Rattle.script_lex.proofs.location.backing_at.Statement.{statement}
 use Rattle.script_lex.proofs.location.backing_at.Tie as tie
 
-behind-requires : tie.Need-behind-requires
-behind-requires c κs = search needs
-
-slice-aggregate-is-word : tie.Need-slice-aggregate-is-word
-slice-aggregate-is-word c = search needs
-
-is-word-requires : tie.Need-is-word-requires
-is-word-requires c κs = search needs
-
-image-at-requires : tie.Need-image-at-requires
-image-at-requires c κs = search needs
-
 returns : tie.Need-returns
 unfolding backingOf
 returns c = simp (sym (c .before .before .is-word .ensures) ∙ c .before .if1 .taken, ← (c .before .before .before .before .behind .ensures)) (c .image-at .ensures)
-
-slice-aggregate-is-word-2 : tie.Need-slice-aggregate-is-word-2
-slice-aggregate-is-word-2 c = search needs
-
-is-word-requires-2 : tie.Need-is-word-requires-2
-is-word-requires-2 c κs = search needs
-
-pool-at-requires : tie.Need-pool-at-requires
-pool-at-requires c κs = search needs
 
 returns-2 : tie.Need-returns-2
 unfolding backingOf
@@ -41,13 +20,13 @@ pub backing-at-spec : {M : Type 1} → statement M
 backing-at-spec =
     tie.close
     (tie.spec
-    behind-requires
-    slice-aggregate-is-word
-    is-word-requires
-    image-at-requires
+    (λ c κs. search needs)
+    (λ c. search needs)
+    (λ c κs. search needs)
+    (λ c κs. search needs)
     returns
-    slice-aggregate-is-word-2
-    is-word-requires-2
-    pool-at-requires
+    (λ c. search needs)
+    (λ c κs. search needs)
+    (λ c κs. search needs)
     returns-2
     returns-3)

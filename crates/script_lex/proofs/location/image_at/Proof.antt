@@ -4,30 +4,9 @@ use borrow.Author.Needs.{needs}
 use Rattle.script_lex.proofs.location.image_at.Statement.{statement}
 use Rattle.script_lex.proofs.location.image_at.Tie as tie
 
-number-at-requires : tie.Need-number-at-requires
-number-at-requires c κs = search needs
-
-enum-known-base : tie.Need-enum-known-base
-enum-known-base c = search needs
-
-enum-told : tie.Need-enum-told
-enum-told c = search needs
-
 returns : tie.Need-returns
 unfolding imageLine imageOf
 returns c = simp (sym (c .before .before .number-at .ensures) ∙ c .enum-told .given .1)
-
-behind-requires : tie.Need-behind-requires
-behind-requires c κs = search needs
-
-number-at-requires-2 : tie.Need-number-at-requires-2
-number-at-requires-2 c κs = search needs
-
-enum-known-size : tie.Need-enum-known-size
-enum-known-size c = search needs
-
-enum-told-2 : tie.Need-enum-told-2
-enum-told-2 c = search needs
 
 returns-2 : tie.Need-returns-2
 unfolding imageLine imageOf
@@ -41,13 +20,13 @@ pub image-at-spec : {M : Type 1} → statement M
 image-at-spec =
     tie.close
     (tie.spec
-    number-at-requires
-    enum-known-base
-    enum-told
+    (λ c κs. search needs)
+    (λ c. search needs)
+    (λ c. search needs)
     returns
-    behind-requires
-    number-at-requires-2
-    enum-known-size
-    enum-told-2
+    (λ c κs. search needs)
+    (λ c κs. search needs)
+    (λ c. search needs)
+    (λ c. search needs)
     returns-2
     returns-3)

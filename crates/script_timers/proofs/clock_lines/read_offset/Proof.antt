@@ -9,30 +9,9 @@ use borrow.Author.Needs.{needs}
 use Rattle.script_timers.proofs.clock_lines.read_offset.Statement.{statement}
 use Rattle.script_timers.proofs.clock_lines.read_offset.Tie as tie
 
-signed-at-requires : tie.Need-signed-at-requires
-signed-at-requires c κs = search needs
-
-enum-known-offset : tie.Need-enum-known-offset
-enum-known-offset c = search needs
-
-enum-told : tie.Need-enum-told
-enum-told c = search needs
-
 returns : tie.Need-returns
 unfolding newBehind newOf
 returns c = simp (sym (c .before .before .signed-at .ensures) ∙ c .enum-told .given .1)
-
-behind-requires : tie.Need-behind-requires
-behind-requires c κs = search needs
-
-one-number-requires : tie.Need-one-number-requires
-one-number-requires c κs = search needs
-
-enum-known-mhz : tie.Need-enum-known-mhz
-enum-known-mhz c = search needs
-
-enum-told-2 : tie.Need-enum-told-2
-enum-told-2 c = search needs
 
 returns-2 : tie.Need-returns-2
 unfolding newBehind newOf
@@ -50,14 +29,14 @@ pub read-offset-spec : {M : Type 1} → statement M
 read-offset-spec =
     tie.close
     (tie.spec
-    signed-at-requires
-    enum-known-offset
-    enum-told
+    (λ c κs. search needs)
+    (λ c. search needs)
+    (λ c. search needs)
     returns
-    behind-requires
-    one-number-requires
-    enum-known-mhz
-    enum-told-2
+    (λ c κs. search needs)
+    (λ c κs. search needs)
+    (λ c. search needs)
+    (λ c. search needs)
     returns-2
     cast-t10
     returns-3)

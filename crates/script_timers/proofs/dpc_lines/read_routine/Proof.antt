@@ -5,15 +5,6 @@ use borrow.Author.Needs.{needs}
 use Rattle.script_timers.proofs.dpc_lines.read_routine.Statement.{statement}
 use Rattle.script_timers.proofs.dpc_lines.read_routine.Tie as tie
 
-two-numbers-requires : tie.Need-two-numbers-requires
-two-numbers-requires c κs = search needs
-
-enum-told : tie.Need-enum-told
-enum-told c = search needs
-
-enum-known-routine : tie.Need-enum-known-routine
-enum-known-routine c = search needs
-
 returns : tie.Need-returns
 unfolding routineBehind withTwo
 returns c = simp (sym (c .before .before .two-numbers .ensures) ∙ c .enum-told .given .1)
@@ -24,4 +15,4 @@ returns-2 c = simp (sym (c .before .before .before .two-numbers .ensures) ∙ c 
 
 pub read-routine-spec : {M : Type 1} → statement M
 read-routine-spec =
-    tie.close (tie.spec two-numbers-requires enum-told enum-known-routine returns returns-2)
+    tie.close (tie.spec (λ c κs. search needs) (λ c. search needs) (λ c. search needs) returns returns-2)

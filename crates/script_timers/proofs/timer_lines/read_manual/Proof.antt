@@ -4,24 +4,9 @@ use borrow.Author.Needs.{needs}
 use Rattle.script_timers.proofs.timer_lines.read_manual.Statement.{statement}
 use Rattle.script_timers.proofs.timer_lines.read_manual.Tie as tie
 
-flag-at-requires : tie.Need-flag-at-requires
-flag-at-requires c κs = search needs
-
-enum-known-manual : tie.Need-enum-known-manual
-enum-known-manual c = search needs
-
-enum-told : tie.Need-enum-told
-enum-told c = search needs
-
 returns : tie.Need-returns
 unfolding manualBehind manualOf
 returns c = simp (sym (c .before .before .flag-at .ensures) ∙ c .enum-told .given .1)
-
-behind-requires : tie.Need-behind-requires
-behind-requires c κs = search needs
-
-bare-requires : tie.Need-bare-requires
-bare-requires c κs = search needs
 
 returns-2 : tie.Need-returns-2
 unfolding manualBehind manualOf
@@ -31,10 +16,10 @@ pub read-manual-spec : {M : Type 1} → statement M
 read-manual-spec =
     tie.close
     (tie.spec
-    flag-at-requires
-    enum-known-manual
-    enum-told
+    (λ c κs. search needs)
+    (λ c. search needs)
+    (λ c. search needs)
     returns
-    behind-requires
-    bare-requires
+    (λ c κs. search needs)
+    (λ c κs. search needs)
     returns-2)

@@ -5,46 +5,25 @@ use borrow.Author.Needs.{needs}
 use Rattle.timers.proofs.initialize.dpc_refusal.Statement.{statement}
 use Rattle.timers.proofs.initialize.dpc_refusal.Tie as tie
 
-find-object-requires : tie.Need-find-object-requires
-find-object-requires c κs = search needs
-
 returns : tie.Need-returns
 unfolding dpcRefusal
 returns c = simp (← (c .before .find-object .ensures), ne-eqb _ _ (c .if1 .taken))
-
-is-dpc-full-requires : tie.Need-is-dpc-full-requires
-is-dpc-full-requires c κs = search needs
 
 returns-2 : tie.Need-returns-2
 unfolding dpcRefusal
 returns-2 c = simp (← (c .before .before .before .find-object .ensures), eq-eqb _ _ (c .before .before .if1 .left), sym (c .before .is-dpc-full .ensures) ∙ c .if2 .taken)
 
-get-requires : tie.Need-get-requires
-get-requires c κs = search needs
-
 returns-3 : tie.Need-returns-3
 unfolding dpcRefusal
 returns-3 c = simp (← (c .before .before .before .before .before .find-object .ensures), eq-eqb _ _ (c .before .before .before .before .if1 .left), sym (c .before .before .before .is-dpc-full .ensures) ∙ c .before .before .if2 .left, ← (c .before .get .ensures), le-leb _ _ (c .if3 .taken))
-
-is-busy-requires : tie.Need-is-busy-requires
-is-busy-requires c κs = search needs
 
 returns-4 : tie.Need-returns-4
 unfolding dpcRefusal
 returns-4 c = simp (← (c .before .before .before .before .before .before .before .find-object .ensures), eq-eqb _ _ (c .before .before .before .before .before .before .if1 .left), sym (c .before .before .before .before .before .is-dpc-full .ensures) ∙ c .before .before .before .before .if2 .left, ← (c .before .before .before .get .ensures), lt-leb _ _ (c .before .before .if3 .left), sym (c .before .is-busy .ensures) ∙ c .if4 .taken)
 
-is-named-requires : tie.Need-is-named-requires
-is-named-requires c κs = search needs
-
 returns-5 : tie.Need-returns-5
 unfolding dpcRefusal
 returns-5 c = simp (← (c .before .before .before .before .before .before .before .before .before .find-object .ensures), eq-eqb _ _ (c .before .before .before .before .before .before .before .before .if1 .left), sym (c .before .before .before .before .before .before .before .is-dpc-full .ensures) ∙ c .before .before .before .before .before .before .if2 .left, ← (c .before .before .before .before .before .get .ensures), lt-leb _ _ (c .before .before .before .before .if3 .left), sym (c .before .before .before .is-busy .ensures) ∙ c .before .before .if4 .left, sym (c .before .is-named .ensures) ∙ c .if5 .taken)
-
-dpc-size-requires : tie.Need-dpc-size-requires
-dpc-size-requires c κs = search needs
-
-place-refusal-requires : tie.Need-place-refusal-requires
-place-refusal-requires c κs = search needs
 
 returns-6 : tie.Need-returns-6
 unfolding dpcRefusal
@@ -54,16 +33,16 @@ pub dpc-refusal-spec : {M : Type 1} → statement M
 dpc-refusal-spec =
     tie.close
     (tie.spec
-    find-object-requires
+    (λ c κs. search needs)
     returns
-    is-dpc-full-requires
+    (λ c κs. search needs)
     returns-2
-    get-requires
+    (λ c κs. search needs)
     returns-3
-    is-busy-requires
+    (λ c κs. search needs)
     returns-4
-    is-named-requires
+    (λ c κs. search needs)
     returns-5
-    dpc-size-requires
-    place-refusal-requires
+    (λ c κs. search needs)
+    (λ c κs. search needs)
     returns-6)

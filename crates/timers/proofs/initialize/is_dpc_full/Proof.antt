@@ -4,18 +4,9 @@ use borrow.Author.Needs.{needs}
 use Rattle.timers.proofs.initialize.is_dpc_full.Statement.{statement}
 use Rattle.timers.proofs.initialize.is_dpc_full.Tie as tie
 
-find-dpc-requires : tie.Need-find-dpc-requires
-find-dpc-requires c κs = search needs
-
 returns : tie.Need-returns
 unfolding dpcFull
 returns c = simp (← (c .before .find-dpc .ensures), ne-eqb _ _ (c .if1 .taken))
-
-get-requires : tie.Need-get-requires
-get-requires c κs = search needs
-
-get-requires-2 : tie.Need-get-requires-2
-get-requires-2 c κs = search needs
 
 returns-2 : tie.Need-returns-2
 unfolding dpcFull
@@ -23,4 +14,4 @@ returns-2 c = simp (← (c .before .before .before .find-dpc .ensures), eq-eqb _
 
 pub is-dpc-full-spec : {M : Type 1} → statement M
 is-dpc-full-spec =
-    tie.close (tie.spec find-dpc-requires returns get-requires get-requires-2 returns-2)
+    tie.close (tie.spec (λ c κs. search needs) returns (λ c κs. search needs) (λ c κs. search needs) returns-2)

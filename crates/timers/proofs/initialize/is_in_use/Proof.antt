@@ -5,22 +5,13 @@ use borrow.Author.Needs.{needs}
 use Rattle.timers.proofs.initialize.is_in_use.Statement.{statement}
 use Rattle.timers.proofs.initialize.is_in_use.Tie as tie
 
-waits-on-requires : tie.Need-waits-on-requires
-waits-on-requires c κs = search needs
-
 returns : tie.Need-returns
 unfolding inUse
 returns c = simp (sym (c .before .waits-on .ensures) ∙ c .if1 .taken)
 
-place-of-requires : tie.Need-place-of-requires
-place-of-requires c κs = search needs
-
 returns-2 : tie.Need-returns-2
 unfolding inUse
 returns-2 c = simp (sym (c .before .before .before .waits-on .ensures) ∙ c .before .before .if1 .left, ← (c .before .place-of .ensures), eq-eqb _ _ (c .if2 .taken))
-
-is-inserted-requires : tie.Need-is-inserted-requires
-is-inserted-requires c κs = search needs
 
 returns-3 : tie.Need-returns-3
 unfolding inUse
@@ -29,4 +20,4 @@ returns-3 c = simp (sym (c .before .before .before .before .waits-on .ensures) �
 pub is-in-use-spec : {M : Type 1} → statement M
 is-in-use-spec =
     tie.close
-    (tie.spec waits-on-requires returns place-of-requires returns-2 is-inserted-requires returns-3)
+    (tie.spec (λ c κs. search needs) returns (λ c κs. search needs) returns-2 (λ c κs. search needs) returns-3)

@@ -3,12 +3,9 @@ use borrow.Author.Needs.{needs}
 use Rattle.timers.proofs.initialize.new_timer.Statement.{statement}
 use Rattle.timers.proofs.initialize.new_timer.Tie as tie
 
-flag-requires : tie.Need-flag-requires
-flag-requires c κs = search needs
-
 returns : tie.Need-returns
 unfolding newTimer
 returns c = cc
 
 pub new-timer-spec : {M : Type 1} → statement M
-new-timer-spec = tie.close (tie.spec flag-requires returns)
+new-timer-spec = tie.close (tie.spec (λ c κs. search needs) returns)

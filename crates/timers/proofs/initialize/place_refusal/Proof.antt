@@ -4,15 +4,9 @@ use borrow.Author.Needs.{needs}
 use Rattle.timers.proofs.initialize.place_refusal.Statement.{statement}
 use Rattle.timers.proofs.initialize.place_refusal.Tie as tie
 
-location-refusal-requires : tie.Need-location-refusal-requires
-location-refusal-requires c κs = search needs
-
 returns : tie.Need-returns
 unfolding placeRefusal
 returns c = simp (← (c .before .location-refusal .ensures), ne-eqb _ _ (c .if1 .taken))
-
-range-refusal-requires : tie.Need-range-refusal-requires
-range-refusal-requires c κs = search needs
 
 returns-2 : tie.Need-returns-2
 unfolding placeRefusal
@@ -20,4 +14,4 @@ returns-2 c = simp (← (c .before .before .location-refusal .ensures), eq-eqb _
 
 pub place-refusal-spec : {M : Type 1} → statement M
 place-refusal-spec =
-    tie.close (tie.spec location-refusal-requires returns range-refusal-requires returns-2)
+    tie.close (tie.spec (λ c κs. search needs) returns (λ c κs. search needs) returns-2)

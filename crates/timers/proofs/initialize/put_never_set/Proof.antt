@@ -3,27 +3,6 @@ use borrow.Author.Needs.{needs}
 use Rattle.timers.proofs.initialize.put_never_set.Statement.{statement}
 use Rattle.timers.proofs.initialize.put_never_set.Tie as tie
 
-put-in-requires : tie.Need-put-in-requires
-put-in-requires c κs = search needs
-
-put-in-requires-2 : tie.Need-put-in-requires-2
-put-in-requires-2 c κs = search needs
-
-put-in-requires-3 : tie.Need-put-in-requires-3
-put-in-requires-3 c κs = search needs
-
-put-in-requires-4 : tie.Need-put-in-requires-4
-put-in-requires-4 c κs = search needs
-
-put-in-requires-5 : tie.Need-put-in-requires-5
-put-in-requires-5 c κs = search needs
-
-put-in-requires-6 : tie.Need-put-in-requires-6
-put-in-requires-6 c κs = search needs
-
-same-length : tie.Need-same-length
-same-length c = search needs
-
 returns : tie.Need-returns
 unfolding neverSet
 returns c = cc
@@ -32,11 +11,11 @@ pub put-never-set-spec : {M : Type 1} → statement M
 put-never-set-spec =
     tie.close
     (tie.spec
-    put-in-requires
-    put-in-requires-2
-    put-in-requires-3
-    put-in-requires-4
-    put-in-requires-5
-    put-in-requires-6
-    same-length
+    (λ c κs. search needs)
+    (λ c κs. search needs)
+    (λ c κs. search needs)
+    (λ c κs. search needs)
+    (λ c κs. search needs)
+    (λ c κs. search needs)
+    (λ c. search needs)
     returns)

@@ -4,15 +4,9 @@ use borrow.Author.Needs.{needs}
 use Rattle.timers.proofs.initialize.range_refusal.Statement.{statement}
 use Rattle.timers.proofs.initialize.range_refusal.Tie as tie
 
-any-object-requires : tie.Need-any-object-requires
-any-object-requires c κs = search needs
-
 returns : tie.Need-returns
 unfolding rangeRefusal
 returns c = simp (sym (c .before .any-object .ensures) ∙ c .if1 .taken)
-
-any-dpc-requires : tie.Need-any-dpc-requires
-any-dpc-requires c κs = search needs
 
 returns-2 : tie.Need-returns-2
 unfolding rangeRefusal
@@ -24,4 +18,4 @@ returns-3 c = simp (sym (c .before .before .before .any-object .ensures) ∙ c .
 
 pub range-refusal-spec : {M : Type 1} → statement M
 range-refusal-spec =
-    tie.close (tie.spec any-object-requires returns any-dpc-requires returns-2 returns-3)
+    tie.close (tie.spec (λ c κs. search needs) returns (λ c κs. search needs) returns-2 returns-3)

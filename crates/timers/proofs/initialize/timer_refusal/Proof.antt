@@ -5,39 +5,21 @@ use borrow.Author.Needs.{needs}
 use Rattle.timers.proofs.initialize.timer_refusal.Statement.{statement}
 use Rattle.timers.proofs.initialize.timer_refusal.Tie as tie
 
-collision-requires : tie.Need-collision-requires
-collision-requires c κs = search needs
-
 returns : tie.Need-returns
 unfolding timerRefusal
 returns c = simp (sym (c .before .collision .ensures) ∙ c .if1 .taken)
-
-is-full-requires : tie.Need-is-full-requires
-is-full-requires c κs = search needs
 
 returns-2 : tie.Need-returns-2
 unfolding timerRefusal
 returns-2 c = simp (sym (c .before .before .before .collision .ensures) ∙ c .before .before .if1 .left, sym (c .before .is-full .ensures) ∙ c .if2 .taken)
 
-get-requires : tie.Need-get-requires
-get-requires c κs = search needs
-
 returns-3 : tie.Need-returns-3
 unfolding timerRefusal
 returns-3 c = simp (sym (c .before .before .before .before .before .collision .ensures) ∙ c .before .before .before .before .if1 .left, sym (c .before .before .before .is-full .ensures) ∙ c .before .before .if2 .left, ← (c .before .get .ensures), le-leb _ _ (c .if3 .taken))
 
-is-in-use-requires : tie.Need-is-in-use-requires
-is-in-use-requires c κs = search needs
-
 returns-4 : tie.Need-returns-4
 unfolding timerRefusal
 returns-4 c = simp (sym (c .before .before .before .before .before .before .before .collision .ensures) ∙ c .before .before .before .before .before .before .if1 .left, sym (c .before .before .before .before .before .is-full .ensures) ∙ c .before .before .before .before .if2 .left, ← (c .before .before .before .get .ensures), lt-leb _ _ (c .before .before .if3 .left), sym (c .before .is-in-use .ensures) ∙ c .if4 .taken)
-
-timer-size-requires : tie.Need-timer-size-requires
-timer-size-requires c κs = search needs
-
-place-refusal-requires : tie.Need-place-refusal-requires
-place-refusal-requires c κs = search needs
 
 returns-5 : tie.Need-returns-5
 unfolding timerRefusal
@@ -47,14 +29,14 @@ pub timer-refusal-spec : {M : Type 1} → statement M
 timer-refusal-spec =
     tie.close
     (tie.spec
-    collision-requires
+    (λ c κs. search needs)
     returns
-    is-full-requires
+    (λ c κs. search needs)
     returns-2
-    get-requires
+    (λ c κs. search needs)
     returns-3
-    is-in-use-requires
+    (λ c κs. search needs)
     returns-4
-    timer-size-requires
-    place-refusal-requires
+    (λ c κs. search needs)
+    (λ c κs. search needs)
     returns-5)

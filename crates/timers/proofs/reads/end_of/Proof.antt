@@ -6,19 +6,13 @@ use borrow.Author.Needs.{needs}
 use Rattle.timers.proofs.reads.end_of.Statement.{statement}
 use Rattle.timers.proofs.reads.end_of.Tie as tie
 
-sub-if1 : tie.Need-sub-if1
-sub-if1 c = search needs
-
 returns : tie.Need-returns
 unfolding endOf
 returns c = simp (lt-ltb 18446744073709551615 (c .before .args .address + c .before .args .size) (omega (arith, c .if1 .taken)))
-
-add-result : tie.Need-add-result
-add-result c = search needs
 
 returns-2 : tie.Need-returns-2
 unfolding endOf
 returns-2 c = simp (le-ltb 18446744073709551615 (c .before .args .address + c .before .args .size) (omega (arith, c .if1 .left)))
 
 pub end-of-spec : {M : Type 1} → statement M
-end-of-spec = tie.close (tie.spec sub-if1 returns add-result returns-2)
+end-of-spec = tie.close (tie.spec (λ c. search needs) returns (λ c. search needs) returns-2)

@@ -4,9 +4,6 @@ use borrow.Author.Needs.{needs}
 use Rattle.timers.proofs.reads.is_nth.Statement.{statement}
 use Rattle.timers.proofs.reads.is_nth.Tie as tie
 
-is-timer-requires : tie.Need-is-timer-requires
-is-timer-requires c κs = search needs
-
 returns : tie.Need-returns
 unfolding isNth
 returns c = simp (sym (c .before .is-timer .ensures) ∙ c .if1 .taken)
@@ -16,4 +13,4 @@ unfolding isNth
 returns-2 c = simp (sym (c .before .is-timer .ensures) ∙ c .if1 .left)
 
 pub is-nth-spec : {M : Type 1} → statement M
-is-nth-spec = tie.close (tie.spec is-timer-requires returns returns-2)
+is-nth-spec = tie.close (tie.spec (λ c κs. search needs) returns returns-2)

@@ -4,15 +4,6 @@ use borrow.Author.Needs.{needs}
 use Rattle.timers.proofs.reads.is_pending.Statement.{statement}
 use Rattle.timers.proofs.reads.is_pending.Tie as tie
 
-is-timer-requires : tie.Need-is-timer-requires
-is-timer-requires c κs = search needs
-
-is-inserted-requires : tie.Need-is-inserted-requires
-is-inserted-requires c κs = search needs
-
-get-in-requires : tie.Need-get-in-requires
-get-in-requires c κs = search needs
-
 returns : tie.Need-returns
 unfolding isPending
 returns c = simp (sym (c .before .before .before .before .is-timer .ensures) ∙ c .before .before .before .if1 .taken, sym (c .before .before .is-inserted .ensures) ∙ c .before .if2 .taken) (cc)
@@ -28,4 +19,4 @@ returns-3 c = simp (sym (c .before .is-timer .ensures) ∙ c .if1 .left)
 pub is-pending-spec : {M : Type 1} → statement M
 is-pending-spec =
     tie.close
-    (tie.spec is-timer-requires is-inserted-requires get-in-requires returns returns-2 returns-3)
+    (tie.spec (λ c κs. search needs) (λ c κs. search needs) (λ c κs. search needs) returns returns-2 returns-3)

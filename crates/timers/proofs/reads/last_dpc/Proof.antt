@@ -9,25 +9,10 @@ use borrow.Author.Needs.{needs}
 use Rattle.timers.proofs.reads.last_dpc.Statement.{statement}
 use Rattle.timers.proofs.reads.last_dpc.Tie as tie
 
-dpcs-base-requires : tie.Need-dpcs-base-requires
-dpcs-base-requires c κs = search needs
-
-count-requires : tie.Need-count-requires
-count-requires c κs = search needs
-
-find-requires : tie.Need-find-requires
-find-requires c κs = search needs
-
 returns : tie.Need-returns
 unfolding lastDpc
 returns c = let e : position (now (c .before .before .before .before .before .args .w)) (dpcsBase (now (c .before .before .before .before .before .args .w))) (dpcCount (now (c .before .before .before .before .before .args .w))) (c .before .before .before .before .before .args .end) ≡ c .before .find .result = cc in
     simp (e, eq-eqb _ _ (c .if1 .taken))
-
-sub-entry-at : tie.Need-sub-entry-at
-sub-entry-at c = search needs
-
-entry-at-requires : tie.Need-entry-at-requires
-entry-at-requires c κs = search needs
 
 returns-2 : tie.Need-returns-2
 unfolding lastDpc
@@ -38,10 +23,10 @@ pub last-dpc-spec : {M : Type 1} → statement M
 last-dpc-spec =
     tie.close
     (tie.spec
-    dpcs-base-requires
-    count-requires
-    find-requires
+    (λ c κs. search needs)
+    (λ c κs. search needs)
+    (λ c κs. search needs)
     returns
-    sub-entry-at
-    entry-at-requires
+    (λ c. search needs)
+    (λ c κs. search needs)
     returns-2)

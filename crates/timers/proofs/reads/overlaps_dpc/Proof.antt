@@ -10,25 +10,10 @@ returns : tie.Need-returns
 unfolding overlapsDpc
 returns c = simp (eq-eqb _ _ (c .if1 .taken))
 
-end-of-requires : tie.Need-end-of-requires
-end-of-requires c κs = search needs
-
-last-dpc-requires : tie.Need-last-dpc-requires
-last-dpc-requires c κs = search needs
-
 returns-2 : tie.Need-returns-2
 unfolding overlapsDpc
 returns-2 c = let e : lastDpc (now (c .before .before .before .before .before .args .w)) (endOf (c .before .before .before .before .before .args .address) (c .before .before .before .before .before .args .size)) ≡ c .before .last-dpc .result = cc in
     simp (ne-eqb _ _ (c .before .before .before .if1 .left), e, eq-eqb _ _ (c .if2 .taken))
-
-get-in-requires : tie.Need-get-in-requires
-get-in-requires c κs = search needs
-
-dpc-size-at-requires : tie.Need-dpc-size-at-requires
-dpc-size-at-requires c κs = search needs
-
-overlap-requires : tie.Need-overlap-requires
-overlap-requires c κs = search needs
 
 returns-3 : tie.Need-returns-3
 unfolding overlapsDpc
@@ -40,10 +25,10 @@ overlaps-dpc-spec =
     tie.close
     (tie.spec
     returns
-    end-of-requires
-    last-dpc-requires
+    (λ c κs. search needs)
+    (λ c κs. search needs)
     returns-2
-    get-in-requires
-    dpc-size-at-requires
-    overlap-requires
+    (λ c κs. search needs)
+    (λ c κs. search needs)
+    (λ c κs. search needs)
     returns-3)

@@ -10,25 +10,10 @@ returns : tie.Need-returns
 unfolding overlapsTimer
 returns c = simp (eq-eqb _ _ (c .if1 .taken))
 
-end-of-requires : tie.Need-end-of-requires
-end-of-requires c κs = search needs
-
-last-timer-requires : tie.Need-last-timer-requires
-last-timer-requires c κs = search needs
-
 returns-2 : tie.Need-returns-2
 unfolding overlapsTimer
 returns-2 c = let e : lastTimer (now (c .before .before .before .before .before .args .w)) (endOf (c .before .before .before .before .before .args .address) (c .before .before .before .before .before .args .size)) ≡ c .before .last-timer .result = cc in
     simp (ne-eqb _ _ (c .before .before .before .if1 .left), e, eq-eqb _ _ (c .if2 .taken))
-
-get-in-requires : tie.Need-get-in-requires
-get-in-requires c κs = search needs
-
-size-at-requires : tie.Need-size-at-requires
-size-at-requires c κs = search needs
-
-overlap-requires : tie.Need-overlap-requires
-overlap-requires c κs = search needs
 
 returns-3 : tie.Need-returns-3
 unfolding overlapsTimer
@@ -40,10 +25,10 @@ overlaps-timer-spec =
     tie.close
     (tie.spec
     returns
-    end-of-requires
-    last-timer-requires
+    (λ c κs. search needs)
+    (λ c κs. search needs)
     returns-2
-    get-in-requires
-    size-at-requires
-    overlap-requires
+    (λ c κs. search needs)
+    (λ c κs. search needs)
+    (λ c κs. search needs)
     returns-3)

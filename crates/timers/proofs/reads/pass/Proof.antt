@@ -9,12 +9,6 @@ use Rattle.timers.proofs.reads.pass.Tie as tie
 returns : tie.Need-returns
 returns c = sym (passed-none (now (c .before .before .args .w)) (c .before .before .args .at) (c .before .before .args .before) (c .if1 .taken))
 
-is-timer-requires : tie.Need-is-timer-requires
-is-timer-requires c κs = search needs
-
-sub-result : tie.Need-sub-result
-sub-result c = search needs
-
 returns-2 : tie.Need-returns-2
 unfolding passedTo
 returns-2 c = simp (sym (c .before .is-timer .ensures) ∙ c .if2 .taken)
@@ -24,4 +18,4 @@ unfolding passedTo
 returns-3 c = simp (sym (c .before .is-timer .ensures) ∙ c .if2 .left)
 
 pub pass-spec : {M : Type 1} → statement M
-pass-spec = tie.close (tie.spec returns is-timer-requires sub-result returns-2 returns-3)
+pass-spec = tie.close (tie.spec returns (λ c κs. search needs) (λ c. search needs) returns-2 returns-3)

@@ -8,12 +8,9 @@ returns : tie.Need-returns
 unfolding timerAnswer
 returns c = simp (eq-eqb _ _ (c .if1 .taken))
 
-read-timer-requires : tie.Need-read-timer-requires
-read-timer-requires c κs = search needs
-
 returns-2 : tie.Need-returns-2
 unfolding timerAnswer
 returns-2 c = simp (ne-eqb _ _ (c .before .if1 .left)) (cc)
 
 pub timer-at-spec : {M : Type 1} → statement M
-timer-at-spec = tie.close (tie.spec returns read-timer-requires returns-2)
+timer-at-spec = tie.close (tie.spec returns (λ c κs. search needs) returns-2)

@@ -3,12 +3,9 @@ use borrow.Author.Needs.{needs}
 use Rattle.timers.proofs.reads.timer_initializations.Statement.{statement}
 use Rattle.timers.proofs.reads.timer_initializations.Tie as tie
 
-get-requires : tie.Need-get-requires
-get-requires c κs = search needs
-
 returns : tie.Need-returns
 unfolding timerInitializations
 returns c = cc
 
 pub timer-initializations-spec : {M : Type 1} → statement M
-timer-initializations-spec = tie.close (tie.spec get-requires returns)
+timer-initializations-spec = tie.close (tie.spec (λ c κs. search needs) returns)

@@ -4,15 +4,9 @@ use borrow.Author.Needs.{needs}
 use Rattle.timers.proofs.reads.timer_metadata_overlap.Statement.{statement}
 use Rattle.timers.proofs.reads.timer_metadata_overlap.Tie as tie
 
-overlaps-timer-requires : tie.Need-overlaps-timer-requires
-overlaps-timer-requires c κs = search needs
-
 returns : tie.Need-returns
 unfolding metadataOverlap
 returns c = simp (sym (c .before .overlaps-timer .ensures) ∙ c .if1 .taken)
-
-overlaps-dpc-requires : tie.Need-overlaps-dpc-requires
-overlaps-dpc-requires c κs = search needs
 
 returns-2 : tie.Need-returns-2
 unfolding metadataOverlap
@@ -20,4 +14,4 @@ returns-2 c = simp (sym (c .before .before .overlaps-timer .ensures) ∙ c .befo
 
 pub timer-metadata-overlap-spec : {M : Type 1} → statement M
 timer-metadata-overlap-spec =
-    tie.close (tie.spec overlaps-timer-requires returns overlaps-dpc-requires returns-2)
+    tie.close (tie.spec (λ c κs. search needs) returns (λ c κs. search needs) returns-2)

@@ -3,12 +3,9 @@ use borrow.Author.Needs.{needs}
 use Rattle.timers.proofs.reads.timer_read_overlap.Statement.{statement}
 use Rattle.timers.proofs.reads.timer_read_overlap.Tie as tie
 
-overlaps-timer-requires : tie.Need-overlaps-timer-requires
-overlaps-timer-requires c κs = search needs
-
 returns : tie.Need-returns
 unfolding readOverlap
 returns c = cc
 
 pub timer-read-overlap-spec : {M : Type 1} → statement M
-timer-read-overlap-spec = tie.close (tie.spec overlaps-timer-requires returns)
+timer-read-overlap-spec = tie.close (tie.spec (λ c κs. search needs) returns)

@@ -3,12 +3,9 @@ use borrow.Author.Needs.{needs}
 use Rattle.timers.proofs.record.is_inserted.Statement.{statement}
 use Rattle.timers.proofs.record.is_inserted.Tie as tie
 
-get-in-requires : tie.Need-get-in-requires
-get-in-requires c κs = search needs
-
 returns : tie.Need-returns
 unfolding isInserted
 returns c = cc
 
 pub is-inserted-spec : {M : Type 1} → statement M
-is-inserted-spec = tie.close (tie.spec get-in-requires returns)
+is-inserted-spec = tie.close (tie.spec (λ c κs. search needs) returns)

@@ -4,12 +4,6 @@ use borrow.Author.Needs.{needs}
 use Rattle.timers.proofs.release.dpc_held.Statement.{statement}
 use Rattle.timers.proofs.release.dpc_held.Tie as tie
 
-dpc-stands-requires : tie.Need-dpc-stands-requires
-dpc-stands-requires c κs = search needs
-
-is-dpc-held-requires : tie.Need-is-dpc-held-requires
-is-dpc-held-requires c κs = search needs
-
 returns : tie.Need-returns
 unfolding dpcHeld
 returns c = simp (sym (c .before .before .dpc-stands .ensures) ∙ c .before .if1 .taken) (cc)
@@ -19,4 +13,4 @@ unfolding dpcHeld
 returns-2 c = simp (sym (c .before .dpc-stands .ensures) ∙ c .if1 .left)
 
 pub dpc-held-spec : {M : Type 1} → statement M
-dpc-held-spec = tie.close (tie.spec dpc-stands-requires is-dpc-held-requires returns returns-2)
+dpc-held-spec = tie.close (tie.spec (λ c κs. search needs) (λ c κs. search needs) returns returns-2)

@@ -4,25 +4,13 @@ use borrow.Author.Needs.{needs}
 use Rattle.timers.proofs.release.is_timer_held.Statement.{statement}
 use Rattle.timers.proofs.release.is_timer_held.Tie as tie
 
-is-inserted-requires : tie.Need-is-inserted-requires
-is-inserted-requires c κs = search needs
-
 returns : tie.Need-returns
 unfolding isTimerHeld
 returns c = simp (sym (c .before .is-inserted .ensures) ∙ c .if1 .taken)
 
-get-in-requires : tie.Need-get-in-requires
-get-in-requires c κs = search needs
-
-waits-on-requires : tie.Need-waits-on-requires
-waits-on-requires c κs = search needs
-
 returns-2 : tie.Need-returns-2
 unfolding isTimerHeld
 returns-2 c = simp (sym (c .before .before .before .before .is-inserted .ensures) ∙ c .before .before .before .if1 .left, ← (c .before .before .get-in .ensures), sym (c .before .waits-on .ensures) ∙ c .if2 .taken)
-
-is-active-origin-requires : tie.Need-is-active-origin-requires
-is-active-origin-requires c κs = search needs
 
 returns-3 : tie.Need-returns-3
 unfolding isTimerHeld
@@ -32,10 +20,10 @@ pub is-timer-held-spec : {M : Type 1} → statement M
 is-timer-held-spec =
     tie.close
     (tie.spec
-    is-inserted-requires
+    (λ c κs. search needs)
     returns
-    get-in-requires
-    waits-on-requires
+    (λ c κs. search needs)
+    (λ c κs. search needs)
     returns-2
-    is-active-origin-requires
+    (λ c κs. search needs)
     returns-3)

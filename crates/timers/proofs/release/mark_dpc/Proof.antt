@@ -5,21 +5,9 @@ use borrow.Author.Needs.{needs}
 use Rattle.timers.proofs.release.mark_dpc.Statement.{statement}
 use Rattle.timers.proofs.release.mark_dpc.Tie as tie
 
-dpc-stands-requires : tie.Need-dpc-stands-requires
-dpc-stands-requires c κs = search needs
-
-same-length : tie.Need-same-length
-same-length c = search needs
-
 returns : tie.Need-returns
 unfolding dpcMarked
 returns c = simp (sym (c .before .dpc-stands .ensures) ∙ not-true _ (c .if1 .taken))
-
-put-in-requires : tie.Need-put-in-requires
-put-in-requires c κs = search needs
-
-same-length-2 : tie.Need-same-length-2
-same-length-2 c = search needs
 
 returns-2 : tie.Need-returns-2
 unfolding dpcMarked
@@ -28,4 +16,4 @@ returns-2 c = simp (sym (c .before .before .before .before .before .dpc-stands .
 pub mark-dpc-spec : {M : Type 1} → statement M
 mark-dpc-spec =
     tie.close
-    (tie.spec dpc-stands-requires same-length returns put-in-requires same-length-2 returns-2)
+    (tie.spec (λ c κs. search needs) (λ c. search needs) returns (λ c κs. search needs) (λ c. search needs) returns-2)

@@ -5,21 +5,9 @@ use borrow.Author.Needs.{needs}
 use Rattle.timers.proofs.release.mark_timer.Statement.{statement}
 use Rattle.timers.proofs.release.mark_timer.Tie as tie
 
-timer-stands-requires : tie.Need-timer-stands-requires
-timer-stands-requires c κs = search needs
-
-same-length : tie.Need-same-length
-same-length c = search needs
-
 returns : tie.Need-returns
 unfolding timerMarked
 returns c = simp (sym (c .before .timer-stands .ensures) ∙ not-true _ (c .if1 .taken))
-
-put-in-requires : tie.Need-put-in-requires
-put-in-requires c κs = search needs
-
-same-length-2 : tie.Need-same-length-2
-same-length-2 c = search needs
 
 returns-2 : tie.Need-returns-2
 unfolding timerMarked
@@ -28,4 +16,4 @@ returns-2 c = simp (sym (c .before .before .before .before .before .timer-stands
 pub mark-timer-spec : {M : Type 1} → statement M
 mark-timer-spec =
     tie.close
-    (tie.spec timer-stands-requires same-length returns put-in-requires same-length-2 returns-2)
+    (tie.spec (λ c κs. search needs) (λ c. search needs) returns (λ c κs. search needs) (λ c. search needs) returns-2)

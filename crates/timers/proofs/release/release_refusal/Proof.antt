@@ -4,15 +4,9 @@ use borrow.Author.Needs.{needs}
 use Rattle.timers.proofs.release.release_refusal.Statement.{statement}
 use Rattle.timers.proofs.release.release_refusal.Tie as tie
 
-any-timer-held-requires : tie.Need-any-timer-held-requires
-any-timer-held-requires c κs = search needs
-
 returns : tie.Need-returns
 unfolding releaseRefusal
 returns c = simp (sym (c .before .any-timer-held .ensures) ∙ c .if1 .taken)
-
-any-dpc-held-requires : tie.Need-any-dpc-held-requires
-any-dpc-held-requires c κs = search needs
 
 returns-2 : tie.Need-returns-2
 unfolding releaseRefusal
@@ -24,4 +18,4 @@ returns-3 c = simp (sym (c .before .before .before .any-timer-held .ensures) ∙
 
 pub release-refusal-spec : {M : Type 1} → statement M
 release-refusal-spec =
-    tie.close (tie.spec any-timer-held-requires returns any-dpc-held-requires returns-2 returns-3)
+    tie.close (tie.spec (λ c κs. search needs) returns (λ c κs. search needs) returns-2 returns-3)

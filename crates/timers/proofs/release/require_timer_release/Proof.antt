@@ -4,9 +4,6 @@ use borrow.Author.Needs.{needs}
 use Rattle.timers.proofs.release.require_timer_release.Statement.{statement}
 use Rattle.timers.proofs.release.require_timer_release.Tie as tie
 
-release-refusal-requires : tie.Need-release-refusal-requires
-release-refusal-requires c κs = search needs
-
 returns : tie.Need-returns
 unfolding timerRelease
 returns c = simp (← (c .before .release-refusal .ensures), ne-eqb _ _ (c .if1 .taken))
@@ -16,4 +13,4 @@ unfolding timerRelease
 returns-2 c = simp (← (c .before .release-refusal .ensures), eq-eqb _ _ (c .if1 .left))
 
 pub require-timer-release-spec : {M : Type 1} → statement M
-require-timer-release-spec = tie.close (tie.spec release-refusal-requires returns returns-2)
+require-timer-release-spec = tie.close (tie.spec (λ c κs. search needs) returns returns-2)

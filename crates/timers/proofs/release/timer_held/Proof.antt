@@ -4,12 +4,6 @@ use borrow.Author.Needs.{needs}
 use Rattle.timers.proofs.release.timer_held.Statement.{statement}
 use Rattle.timers.proofs.release.timer_held.Tie as tie
 
-timer-stands-requires : tie.Need-timer-stands-requires
-timer-stands-requires c κs = search needs
-
-is-timer-held-requires : tie.Need-is-timer-held-requires
-is-timer-held-requires c κs = search needs
-
 returns : tie.Need-returns
 unfolding timerHeld
 returns c = simp (sym (c .before .before .timer-stands .ensures) ∙ c .before .if1 .taken) (cc)
@@ -20,4 +14,4 @@ returns-2 c = simp (sym (c .before .timer-stands .ensures) ∙ c .if1 .left)
 
 pub timer-held-spec : {M : Type 1} → statement M
 timer-held-spec =
-    tie.close (tie.spec timer-stands-requires is-timer-held-requires returns returns-2)
+    tie.close (tie.spec (λ c κs. search needs) (λ c κs. search needs) returns returns-2)

@@ -4,18 +4,6 @@ use borrow.Author.Needs.{needs}
 use Rattle.timers.proofs.release.timer_stands.Statement.{statement}
 use Rattle.timers.proofs.release.timer_stands.Tie as tie
 
-is-timer-requires : tie.Need-is-timer-requires
-is-timer-requires c κs = search needs
-
-get-in-requires : tie.Need-get-in-requires
-get-in-requires c κs = search needs
-
-size-at-requires : tie.Need-size-at-requires
-size-at-requires c κs = search needs
-
-overlap-requires : tie.Need-overlap-requires
-overlap-requires c κs = search needs
-
 returns : tie.Need-returns
 unfolding timerStands
 returns c = simp (sym (c .before .before .before .before .is-timer .ensures) ∙ c .before .before .before .if1 .taken) (cc)
@@ -28,9 +16,9 @@ pub timer-stands-spec : {M : Type 1} → statement M
 timer-stands-spec =
     tie.close
     (tie.spec
-    is-timer-requires
-    get-in-requires
-    size-at-requires
-    overlap-requires
+    (λ c κs. search needs)
+    (λ c κs. search needs)
+    (λ c κs. search needs)
+    (λ c κs. search needs)
     returns
     returns-2)

@@ -4,9 +4,6 @@ use borrow.Author.Needs.{needs}
 use Rattle.waits.proofs.lists.index.Statement.{statement}
 use Rattle.waits.proofs.lists.index.Tie as tie
 
-first-requires : tie.Need-first-requires
-first-requires c κs = search needs
-
 returns : tie.Need-returns
 unfolding indexIn
 returns c = simp (eq-eqb _ _ (c .before .if1 .taken)) (cc)
@@ -16,4 +13,4 @@ unfolding indexIn
 returns-2 c = simp (ne-eqb _ _ (c .if1 .left))
 
 pub index-spec : {M : Type 1} → statement M
-index-spec = tie.close (tie.spec first-requires returns returns-2)
+index-spec = tie.close (tie.spec (λ c κs. search needs) returns returns-2)

@@ -4,12 +4,6 @@ use borrow.Author.Needs.{needs}
 use Rattle.waits.proofs.lists.is_pair.Statement.{statement}
 use Rattle.waits.proofs.lists.is_pair.Tie as tie
 
-key-in-requires : tie.Need-key-in-requires
-key-in-requires c κs = search needs
-
-kind-in-requires : tie.Need-kind-in-requires
-kind-in-requires c κs = search needs
-
 returns : tie.Need-returns
 unfolding isPair
 returns c = simp (← (c .before .before .key-in .ensures), eq-eqb _ _ (c .before .if1 .taken)) (cc)
@@ -19,4 +13,4 @@ unfolding isPair
 returns-2 c = simp (← (c .before .key-in .ensures), ne-eqb _ _ (c .if1 .left))
 
 pub is-pair-spec : {M : Type 1} → statement M
-is-pair-spec = tie.close (tie.spec key-in-requires kind-in-requires returns returns-2)
+is-pair-spec = tie.close (tie.spec (λ c κs. search needs) (λ c κs. search needs) returns returns-2)

@@ -4,29 +4,17 @@ use borrow.Author.Needs.{needs}
 use Rattle.waits.proofs.object.is_available.Statement.{statement}
 use Rattle.waits.proofs.object.is_available.Tie as tie
 
-is-exited-requires : tie.Need-is-exited-requires
-is-exited-requires c κs = search needs
-
 returns : tie.Need-returns
 unfolding available
 returns c = simp (eq-eqb _ _ (c .before .if1 .taken)) (cc)
-
-place-of-requires : tie.Need-place-of-requires
-place-of-requires c κs = search needs
 
 returns-2 : tie.Need-returns-2
 unfolding available
 returns-2 c = simp (ne-eqb _ _ (c .before .before .if1 .left), ← (c .before .place-of .ensures), eq-eqb _ _ (c .if2 .taken))
 
-get-in-requires : tie.Need-get-in-requires
-get-in-requires c κs = search needs
-
 returns-3 : tie.Need-returns-3
 unfolding available
 returns-3 c = simp (ne-eqb _ _ (c .before .before .before .before .if1 .left), ← (c .before .before .before .place-of .ensures), ne-eqb _ _ (c .before .before .if2 .left), eq-eqb _ _ (c .before .if3 .taken)) (cc)
-
-get-in-requires-2 : tie.Need-get-in-requires-2
-get-in-requires-2 c κs = search needs
 
 returns-4 : tie.Need-returns-4
 unfolding available
@@ -36,11 +24,11 @@ pub is-available-spec : {M : Type 1} → statement M
 is-available-spec =
     tie.close
     (tie.spec
-    is-exited-requires
+    (λ c κs. search needs)
     returns
-    place-of-requires
+    (λ c κs. search needs)
     returns-2
-    get-in-requires
+    (λ c κs. search needs)
     returns-3
-    get-in-requires-2
+    (λ c κs. search needs)
     returns-4)

@@ -4,15 +4,6 @@ use borrow.Author.Needs.{needs}
 use Rattle.waits.proofs.object.is_exited.Statement.{statement}
 use Rattle.waits.proofs.object.is_exited.Tie as tie
 
-is-known-requires : tie.Need-is-known-requires
-is-known-requires c κs = search needs
-
-thread-at-requires : tie.Need-thread-at-requires
-thread-at-requires c κs = search needs
-
-get-in-requires : tie.Need-get-in-requires
-get-in-requires c κs = search needs
-
 returns : tie.Need-returns
 unfolding exited
 returns c = simp (sym (c .before .before .before .is-known .ensures) ∙ c .before .before .if1 .taken) (cc)
@@ -23,4 +14,4 @@ returns-2 c = simp (sym (c .before .is-known .ensures) ∙ c .if1 .left)
 
 pub is-exited-spec : {M : Type 1} → statement M
 is-exited-spec =
-    tie.close (tie.spec is-known-requires thread-at-requires get-in-requires returns returns-2)
+    tie.close (tie.spec (λ c κs. search needs) (λ c κs. search needs) (λ c κs. search needs) returns returns-2)

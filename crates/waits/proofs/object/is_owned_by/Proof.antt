@@ -4,15 +4,9 @@ use borrow.Author.Needs.{needs}
 use Rattle.waits.proofs.object.is_owned_by.Statement.{statement}
 use Rattle.waits.proofs.object.is_owned_by.Tie as tie
 
-place-of-requires : tie.Need-place-of-requires
-place-of-requires c κs = search needs
-
 returns : tie.Need-returns
 unfolding ownedBy
 returns c = simp (eq-eqb _ _ (c .before .before .if1 .taken), ← (c .before .place-of .ensures), eq-eqb _ _ (c .if2 .taken))
-
-get-in-requires : tie.Need-get-in-requires
-get-in-requires c κs = search needs
 
 returns-2 : tie.Need-returns-2
 unfolding ownedBy
@@ -24,4 +18,4 @@ returns-3 c = simp (ne-eqb _ _ (c .if1 .left))
 
 pub is-owned-by-spec : {M : Type 1} → statement M
 is-owned-by-spec =
-    tie.close (tie.spec place-of-requires returns get-in-requires returns-2 returns-3)
+    tie.close (tie.spec (λ c κs. search needs) returns (λ c κs. search needs) returns-2 returns-3)

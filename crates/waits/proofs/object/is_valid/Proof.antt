@@ -4,19 +4,13 @@ use borrow.Author.Needs.{needs}
 use Rattle.waits.proofs.object.is_valid.Statement.{statement}
 use Rattle.waits.proofs.object.is_valid.Tie as tie
 
-is-known-requires : tie.Need-is-known-requires
-is-known-requires c κs = search needs
-
 returns : tie.Need-returns
 unfolding valid
 returns c = simp (eq-eqb _ _ (c .before .if1 .taken)) (cc)
-
-place-of-requires : tie.Need-place-of-requires
-place-of-requires c κs = search needs
 
 returns-2 : tie.Need-returns-2
 unfolding valid
 returns-2 c = simp (ne-eqb _ _ (c .before .if1 .left)) (cc)
 
 pub is-valid-spec : {M : Type 1} → statement M
-is-valid-spec = tie.close (tie.spec is-known-requires returns place-of-requires returns-2)
+is-valid-spec = tie.close (tie.spec (λ c κs. search needs) returns (λ c κs. search needs) returns-2)

@@ -4,12 +4,6 @@ use borrow.Author.Needs.{needs}
 use Rattle.words.proofs.layout.entry_at.Statement.{statement}
 use Rattle.words.proofs.layout.entry_at.Tie as tie
 
-mul-result : tie.Need-mul-result
-mul-result c = search needs
-
-add-result : tie.Need-add-result
-add-result c = search needs
-
 returns : tie.Need-returns
 unfolding entryAt
 returns c = simp (le-leb _ _ (c .before .if1 .taken), le-leb _ _ (c .if2 .taken))
@@ -23,4 +17,4 @@ unfolding entryAt
 returns-3 c = simp (lt-leb _ _ (c .if1 .left))
 
 pub entry-at-spec : {M : Type 1} → statement M
-entry-at-spec = tie.close (tie.spec mul-result add-result returns returns-2 returns-3)
+entry-at-spec = tie.close (tie.spec (λ c. search needs) (λ c. search needs) returns returns-2 returns-3)

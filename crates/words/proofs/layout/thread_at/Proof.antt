@@ -4,12 +4,6 @@ use borrow.Author.Needs.{needs}
 use Rattle.words.proofs.layout.thread_at.Statement.{statement}
 use Rattle.words.proofs.layout.thread_at.Tie as tie
 
-mul-result : tie.Need-mul-result
-mul-result c = search needs
-
-add-result : tie.Need-add-result
-add-result c = search needs
-
 returns : tie.Need-returns
 unfolding threadAt
 returns c = simp (le-leb _ _ (c .if1 .taken))
@@ -19,4 +13,4 @@ unfolding threadAt
 returns-2 c = simp (lt-leb _ _ (c .if1 .left))
 
 pub thread-at-spec : {M : Type 1} → statement M
-thread-at-spec = tie.close (tie.spec mul-result add-result returns returns-2)
+thread-at-spec = tie.close (tie.spec (λ c. search needs) (λ c. search needs) returns returns-2)
