@@ -14,11 +14,12 @@ use Rattle.model.specs.State.{State, Thread, ready, running}
 use Rattle.model.specs.Threads as threads
 use Rattle.model.specs.Threads.{becomes, ran, threadOf, withStatus, isReady}
 use Rattle.model.specs.Choice.{Right}
-use Rattle.model.specs.Refusal.{openRefusal, dispatchRefusal}
+use Rattle.model.specs.Refusal.{dispatchRefusal}
 use Rattle.model.specs.Answer.{Outcome, gives, Run, None, ThreadIs}
 use Rattle.model.specs.Call.{Call, Dispatch}
 use Rattle.model.specs.Call as call
 use Rattle.model.specs.Step.{step, refusal, effect, dispatched, withDispatcher, idleAnswer}
+use Rattle.model.specs.Start.{Start, Accepted}
 use Rattle.model.proofs.ListLaws.{member-mem}
 use Rattle.model.proofs.ThreadLaws.{length-change, change-own, stands-somewhere}
 use Rattle.model.proofs.SoundLaws.{is-thread}
@@ -50,32 +51,32 @@ runs s n h z e =
     runs-next : Outcome
     runs-next = gives (Run (threads.next (s .dispatcher))) (withDispatcher s (ran (s .dispatcher) (threads.next (s .dispatcher))))
 
-module _ (w : List ℕ) (p t o d : ℕ) (calls : List Call) (accepted : openRefusal (length w) p t o d ≡ 0) (proper : Proper (length w) calls) where
+module _ (w : List ℕ) (start : Start) (calls : List Call) (accepted : Accepted (length w) start) (proper : Proper (length w) calls) where
   abbrev words : List ℕ
-  words = end w p t o d calls
+  words = end w start calls
 
   abbrev log : State
-  log = logged w p t o d calls
+  log = logged w start calls
 
   -- the highest priority, and of those the earliest placed; after the call it is current
   pub runs-right : (n : ℕ) → log .limits .threads ≤ n → log .dispatcher .current ≡ 0 → isEmpty (log .dispatcher .placed) ≡ false
       → (i : ℕ) × (answered words (Dispatch n) ≡ Run i) × Right (log .dispatcher) i × (getD (left words (Dispatch n)) at.current 0 ≡ i)
   unfolding ran becomes
   runs-right n h z e =
-      let m = next w p t o d calls accepted proper (Dispatch n) tt tt in
+      let m = next w start calls accepted proper (Dispatch n) tt tt in
       let q = runs log n h z e in (
         threads.next (log .dispatcher),
         m .answers ∙ ap (λ (x : Outcome). x .answer) q,
-        right-next log (valid w p t o d calls accepted proper) e,
+        right-next log (valid w start calls accepted proper) e,
         m .agree .numbers at.current _ refl ∙ ap (λ (x : Outcome). x .state .dispatcher .current) q,
       )
 
   reads : (r : call.Read) → answered words (call.Reads r) ≡ step (call.Reads r) log .answer
-  reads r = next w p t o d calls accepted proper (call.Reads r) tt tt .answers
+  reads r = next w start calls accepted proper (call.Reads r) tt tt .answers
 
   ready-placed : (j : ℕ) (y : Thread) → ThreadRead words j y → y .status ≡ ready → Mem j (log .dispatcher .placed)
   ready-placed j y read q =
-      member-mem j (log .dispatcher .placed) (valid w p t o d calls accepted proper .sound .standing .placed-ready j
+      member-mem j (log .dispatcher .placed) (valid w start calls accepted proper .sound .standing .placed-ready j
       ∙ ap isReady (ap (λ (z : Thread). z .status) (thread-told log j y (sym (reads (call.Thread j)) ∙ read) .1) ∙ q))
 
   -- the same by what the reads answer: none is current, some thread is ready, and the dispatch is not refused
@@ -86,15 +87,15 @@ module _ (w : List ℕ) (p t o d : ℕ) (calls : List Call) (accepted : openRefu
   dispatch-runs n e none j y read q =
       let d₀ = log .dispatcher in
       let i = threads.next d₀ in
-      let h = ltb-false n (log .limits .threads) (passes (ltb n (log .limits .threads)) 26 0 (passed-by w p t o d calls accepted proper (Dispatch n) tt tt e) .0) in
+      let h = ltb-false n (log .limits .threads) (passes (ltb n (log .limits .threads)) 26 0 (passed-by w start calls accepted proper (Dispatch n) tt tt e) .0) in
       let some = some-in (d₀ .placed) j (ready-placed j y read q) in
-      let r = right-next log (valid w p t o d calls accepted proper) some in
+      let r = right-next log (valid w start calls accepted proper) some in
       let z = runs log n h (current-none-told log (sym (reads call.Current) ∙ none)) some in
       let s₁ = step (Dispatch n) log .state in
       let b = stands-somewhere (d₀ .threads) i isReady refl (ap isReady (r .is-ready)) in
       let x = withStatus (threadOf d₀ i) running in (
         i,
-        next w p t o d calls accepted proper (Dispatch n) tt tt .answers ∙ ap (λ (o : Outcome). o .answer) z,
+        next w start calls accepted proper (Dispatch n) tt tt .answers ∙ ap (λ (o : Outcome). o .answer) z,
         record {
           thread = threadOf d₀ i;
           read = reads (call.Thread i) ∙ told-thread log i (is-thread d₀ i (b .0) (b .1));
@@ -109,4 +110,4 @@ module _ (w : List ℕ) (p t o d : ℕ) (calls : List Call) (accepted : openRefu
       )
     where
       after : (n : ℕ) (r : call.Read) → answered (left words (Dispatch n)) (call.Reads r) ≡ step (call.Reads r) (step (Dispatch n) log .state) .answer
-      after n r = next-but-one w p t o d calls accepted proper (Dispatch n) (call.Reads r) tt tt tt tt .answers
+      after n r = next-but-one w start calls accepted proper (Dispatch n) (call.Reads r) tt tt tt tt .answers

@@ -6,13 +6,14 @@ use lib.ListN.{length}
 use Rattle.calls.specs.Run.{answered, left, Lent}
 use Rattle.model.specs.State.{State}
 use Rattle.model.specs.Answer.{Outcome}
-use Rattle.model.specs.Call.{Call, Open}
-use Rattle.model.specs.Refusal.{openRefusal}
-use Rattle.model.specs.Step.{opened, step, refusal, effect}
+use Rattle.model.specs.Call.{Call}
+use Rattle.model.specs.Step.{step, refusal, effect}
+use Rattle.model.specs.Start.{Start, firstCall, Accepted, begun}
 use Rattle.model.specs.Valid.{Valid}
 use Rattle.model.specs.Fits.{Fits, Numbers}
-use Rattle.model.proofs.StepLaws.{valid-opened, valid-step}
-use Rattle.model.proofs.FitsLaws.{numbers-opened, numbers-after, numbers-step}
+use Rattle.model.proofs.StepLaws.{valid-step}
+use Rattle.model.proofs.FitsLaws.{numbers-after, numbers-step}
+use Rattle.model.proofs.StartLaws.{valid-begun, numbers-begun}
 use Rattle.model.proofs.WdkLaws.{step-is}
 use Rattle.agreement.specs.Agree.{Agree}
 use Rattle.agreement.specs.Matches.{Matches}
@@ -27,24 +28,24 @@ words-length : (w : List ℕ) (cs : List Call) → length (wordsAfter w cs) ≡ 
 words-length w [] = refl
 words-length w (c ∷ cs) = words-length (left w c) cs ∙ keeps-length w c
 
-module _ (w : List ℕ) (p t o d : ℕ) (calls : List Call) (accepted : openRefusal (length w) p t o d ≡ 0) (proper : Proper (length w) calls) where
+module _ (w : List ℕ) (start : Start) (calls : List Call) (accepted : Accepted (length w) start) (proper : Proper (length w) calls) where
   abbrev words : List ℕ
-  words = end w p t o d calls
+  words = end w start calls
 
   abbrev log : State
-  log = logged w p t o d calls
+  log = logged w start calls
 
   pub agree : Agree words log
-  agree = theorem w p t o d calls accepted proper .all
+  agree = theorem w start calls accepted proper .all
 
   pub valid : Valid log
-  valid = theorem w p t o d calls accepted proper .valid
+  valid = theorem w start calls accepted proper .valid
 
   pub numbers : Numbers log
-  numbers = numbers-after calls (opened p t o d) (valid-opened (length w) p t o d accepted) (numbers-opened p t o d) (proper .fit)
+  numbers = numbers-after calls (begun start) (valid-begun (length w) start accepted) (numbers-begun (length w) start accepted) (proper .fit)
 
   pub same-length : length words ≡ length w
-  same-length = words-length w (Open (length w) p t o d ∷ calls)
+  same-length = words-length w (firstCall (length w) start ∷ calls)
 
   -- the next call answers what the log answers, and its words agree with the log's state after it
   pub next : (c : Call) → Fits c → Lent (length w) c → Matches (answered words c) (left words c) (step c log)

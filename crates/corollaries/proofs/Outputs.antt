@@ -30,9 +30,9 @@ use Rattle.model.specs.Lists.{present}
 use Rattle.model.specs.State.{State, timer}
 use Rattle.model.specs.Waits.{timerAt}
 use Rattle.model.specs.Dpcs.{dpcAt}
-use Rattle.model.specs.Refusal.{openRefusal}
 use Rattle.model.specs.Call.{Call, Dispatch, Reads, TimerImage, DpcImage}
 use Rattle.model.specs.Call as call
+use Rattle.model.specs.Start.{Start, Accepted}
 use Rattle.agreement.specs.Agree.{Agree}
 use Rattle.agreement.proofs.Records.{timer-read}
 use Rattle.agreement.proofs.Lookups.{object-row}
@@ -82,23 +82,23 @@ dpc-imaged w s a address x out e =
     (number-known w s _ _ a address ∙ ap (λ (m : Option Dpc). not (present m)) e)
     ∙ ap (λ (z : Dpc). imaged (answer.Count (dpcSize (z .architecture))) (dpcImage z out)) (dpc-whole w s _ _ a address x e)
 
-module _ (w : List ℕ) (p t o d : ℕ) (calls : List Call) (accepted : openRefusal (length w) p t o d ≡ 0) (proper : Proper (length w) calls) where
+module _ (w : List ℕ) (start : Start) (calls : List Call) (accepted : Accepted (length w) start) (proper : Proper (length w) calls) where
   abbrev words : List ℕ
-  words = end w p t o d calls
+  words = end w start calls
 
   abbrev log : State
-  log = logged w p t o d calls
+  log = logged w start calls
 
   in-form : inForm words ≡ true
-  in-form = theorem w p t o d calls accepted proper .in-form
+  in-form = theorem w start calls accepted proper .in-form
 
   -- a dispatch on any output answers, a deadlock's numbers at its head, what it answers on a blank one of the same length
   pub dispatch-answers : (out : List ℕ) → toldWith (called words (Dispatch (length out)) out .output) (called words (Dispatch (length out)) out .answer) ≡ answered words (Dispatch (length out))
   unfolding called
   dispatch-answers out =
       ap (λ (x : Dispatched). toldWith (x .output) (x .answer)) (dispatch-is words in-form out)
-      ∙ agree-dispatch words log (agree w p t o d calls accepted proper) (valid w p t o d calls accepted proper) out .answers
-      ∙ sym (next w p t o d calls accepted proper (Dispatch (length out)) tt tt .answers)
+      ∙ agree-dispatch words log (agree w start calls accepted proper) (valid w start calls accepted proper) out .answers
+      ∙ sym (next w start calls accepted proper (Dispatch (length out)) tt tt .answers)
 
   -- and leaves the same words
   pub dispatch-words : (out : List ℕ) → called words (Dispatch (length out)) out .words ≡ left words (Dispatch (length out))
@@ -114,8 +114,8 @@ module _ (w : List ℕ) (p t o d : ℕ) (calls : List Call) (accepted : openRefu
   unfolding called
   timer-image address x out e h =
       image-is words out (timerImaged words address out) in-form h
-      ∙ timer-imaged words log (agree w p t o d calls accepted proper) address x out
-      (timer-told log address x (sym (next w p t o d calls accepted proper (Reads (call.TimerAt address)) tt tt .answers) ∙ e))
+      ∙ timer-imaged words log (agree w start calls accepted proper) address x out
+      (timer-told log address x (sym (next w start calls accepted proper (Reads (call.TimerAt address)) tt tt .answers) ∙ e))
 
   -- and of a DPC
   pub dpc-image : (address : ℕ) (x : Dpc) (out : List ℕ) → DpcRead words address x → 64 ≤ length out
@@ -123,5 +123,5 @@ module _ (w : List ℕ) (p t o d : ℕ) (calls : List Call) (accepted : openRefu
   unfolding called
   dpc-image address x out e h =
       image-is words out (dpcImaged words address out) in-form h
-      ∙ dpc-imaged words log (agree w p t o d calls accepted proper) address x out
-      (dpc-told log address x (sym (next w p t o d calls accepted proper (Reads (call.DpcAt address)) tt tt .answers) ∙ e))
+      ∙ dpc-imaged words log (agree w start calls accepted proper) address x out
+      (dpc-told log address x (sym (next w start calls accepted proper (Reads (call.DpcAt address)) tt tt .answers) ∙ e))

@@ -16,10 +16,10 @@ use Rattle.model.specs.Lists.{Mem}
 use Rattle.model.specs.State.{State}
 use Rattle.model.specs.Dpcs.{addressOf, dpcAt, phaseAt, isActive, isReturning, isIdle, workOf, activeDpc}
 use Rattle.model.specs.Valid.{Queueing, sequenceOf, workAt, activeCount, returningCount}
-use Rattle.model.specs.Refusal.{openRefusal}
 use Rattle.model.specs.Call.{Call}
 use Rattle.model.specs.Call as call
 use Rattle.model.specs.Step.{step}
+use Rattle.model.specs.Start.{Start, Accepted}
 use Rattle.model.proofs.ListLaws.{mem-member}
 use Rattle.model.proofs.TableLaws.{found}
 use Rattle.model.proofs.DpcLaws.{queued-work, phase-found, phase-known}
@@ -41,18 +41,18 @@ idle-not-returning (Queued k) e = refl
 idle-not-returning (Running k) e = refl
 idle-not-returning (Returning k) e = e
 
-module _ (w : List ℕ) (p t o d : ℕ) (calls : List Call) (accepted : openRefusal (length w) p t o d ≡ 0) (proper : Proper (length w) calls) where
+module _ (w : List ℕ) (start : Start) (calls : List Call) (accepted : Accepted (length w) start) (proper : Proper (length w) calls) where
   abbrev words : List ℕ
-  words = end w p t o d calls
+  words = end w start calls
 
   abbrev log : State
-  log = logged w p t o d calls
+  log = logged w start calls
 
   queueing : Queueing (log .limits .dpcs) (log .dpcs .table) (log .dpcs .queue) (log .dpcs .counters)
-  queueing = valid w p t o d calls accepted proper .queueing
+  queueing = valid w start calls accepted proper .queueing
 
   reads : (r : call.Read) → answered words (call.Reads r) ≡ step (call.Reads r) log .answer
-  reads r = next w p t o d calls accepted proper (call.Reads r) tt tt .answers
+  reads r = next w start calls accepted proper (call.Reads r) tt tt .answers
 
   known : (a : ℕ) (x : Dpc) → DpcRead words a x → dpcAt (log .dpcs .table) a ≡ some x
   known a x e = dpc-told log a x (sym (reads (call.DpcAt a)) ∙ e)
@@ -63,7 +63,7 @@ module _ (w : List ℕ) (p t o d : ℕ) (calls : List Call) (accepted : openRefu
   -- the queue holds each queued DPC
   pub queued-stands : (a : ℕ) (x : Dpc) (k : DpcWork) → DpcRead words a x → x .phase ≡ Queued k → (n : ℕ) × QueueRead words n a
   queued-stands a x k e q =
-      let r = mem-nth (log .dpcs .queue) a (queued-in-queue log (valid w p t o d calls accepted proper) a k (phase-found (log .dpcs .table) a x (known a x e) ∙ q)) in
+      let r = mem-nth (log .dpcs .queue) a (queued-in-queue log (valid w start calls accepted proper) a k (phase-found (log .dpcs .table) a x (known a x e) ∙ q)) in
       (r .0, reads (call.QueuedDpcs (r .0)) ∙ told-queue log (r .0) a (r .1))
 
   -- and no other
@@ -99,16 +99,16 @@ module _ (w : List ℕ) (p t o d : ℕ) (calls : List Call) (accepted : openRefu
   -- acceptances = removals + restorations + queued + active work, by the words' counts
   pub acceptances : getD words at.accepted 0 ≡ getD words at.removed 0 + getD words at.restored 0 + length (log .dpcs .queue) + activeCount (log .dpcs .table)
   acceptances =
-      let z = theorem w p t o d calls accepted proper in
+      let z = theorem w start calls accepted proper in
       z .accepted ∙ queueing .sum ∙ ap (λ (n : ℕ). n + log .dpcs .counters .restored + length (log .dpcs .queue) + activeCount (log .dpcs .table)) (sym (z .removed))
       ∙ ap (λ (n : ℕ). getD words at.removed 0 + n + length (log .dpcs .queue) + activeCount (log .dpcs .table)) (sym (z .restored))
 
   -- starts less restorations is the active work; returns less restorations the returning work
   pub starts : getD words at.started 0 ≡ getD words at.restored 0 + activeCount (log .dpcs .table)
-  starts = let z = theorem w p t o d calls accepted proper in z .started ∙ queueing .starts ∙ ap (λ (n : ℕ). n + activeCount (log .dpcs .table)) (sym (z .restored))
+  starts = let z = theorem w start calls accepted proper in z .started ∙ queueing .starts ∙ ap (λ (n : ℕ). n + activeCount (log .dpcs .table)) (sym (z .restored))
 
   pub returns : getD words at.returned 0 ≡ getD words at.restored 0 + returningCount (log .dpcs .table)
-  returns = let z = theorem w p t o d calls accepted proper in z .returned ∙ queueing .returns ∙ ap (λ (n : ℕ). n + returningCount (log .dpcs .table)) (sym (z .restored))
+  returns = let z = theorem w start calls accepted proper in z .returned ∙ queueing .returns ∙ ap (λ (n : ℕ). n + returningCount (log .dpcs .table)) (sym (z .restored))
 
   -- the same by what the reads answer
   pub counted : Counted words

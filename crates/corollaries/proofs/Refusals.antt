@@ -10,8 +10,8 @@ use Rattle.calls.specs.Run.{answered, left, Lent}
 use Rattle.model.specs.State.{State}
 use Rattle.model.specs.Answer.{Outcome, Refused}
 use Rattle.model.specs.Call.{Call}
-use Rattle.model.specs.Refusal.{openRefusal}
 use Rattle.model.specs.Step.{refusal, effect}
+use Rattle.model.specs.Start.{Start, Accepted}
 use Rattle.model.specs.Fits.{Fits}
 use Rattle.model.proofs.ListLaws.{not-both}
 use Rattle.agreement.proofs.Matches.{step-refused}
@@ -23,15 +23,15 @@ use Rattle.corollaries.proofs.Leaves.{refused-leaves}
 use Rattle.corollaries.proofs.Effects.{effect-plain}
 use Rattle.corollaries.proofs.Short.{row-27}
 
-module _ (w : List ℕ) (p t o d : ℕ) (calls : List Call) (accepted : openRefusal (length w) p t o d ≡ 0) (proper : Proper (length w) calls) where
+module _ (w : List ℕ) (start : Start) (calls : List Call) (accepted : Accepted (length w) start) (proper : Proper (length w) calls) where
   abbrev words : List ℕ
-  words = end w p t o d calls
+  words = end w start calls
 
   abbrev log : State
-  log = logged w p t o d calls
+  log = logged w start calls
 
   answers-number : (c : Call) → Fits c → Lent (length w) c → (n : ℕ) → (n ≡ 0 → ⊥) → refusal c log ≡ n → answered words c ≡ Refused n
-  answers-number c fit lent n ne e = next w p t o d calls accepted proper c fit lent .answers ∙ ap (λ (x : Outcome). x .answer) (step-refused c log n e ne)
+  answers-number c fit lent n ne e = next w start calls accepted proper c fit lent .answers ∙ ap (λ (x : Outcome). x .answer) (step-refused c log n e ne)
 
   -- where the table refuses, the code answers the table's number and leaves every word as it was
   pub refused : (c : Call) → Fits c → Lent (length w) c → (n : ℕ) → (n ≡ 0 → ⊥) → refusal c log ≡ n → (answered words c ≡ Refused n) × (left words c ≡ words)
@@ -40,7 +40,7 @@ module _ (w : List ℕ) (p t o d : ℕ) (calls : List Call) (accepted : openRefu
   -- where the table does not, the code answers what the call's effect on the log answers, which is no refusal
   pub not-refused : (c : Call) → Fits c → Lent (length w) c → refusal c log ≡ 0 → (answered words c ≡ effect c log .answer) × (isRefused (answered words c) ≡ false)
   not-refused c fit lent e =
-      let a = accepted-answers w p t o d calls accepted proper c fit lent e in
+      let a = accepted-answers w start calls accepted proper c fit lent e in
       (a, ap isRefused a ∙ effect-plain log c)
 
   -- so a number that the code answers is the table's
@@ -62,4 +62,4 @@ module _ (w : List ℕ) (p t o d : ℕ) (calls : List Call) (accepted : openRefu
   -- 27 is answered for an output or lent words that are too short, and for bad limits of an `open`; never for the words' form
   pub never-27 : (c : Call) → Fits c → Lent (length w) c → answered words c ≡ Refused 27 → Short (getD words at.threadLimit 0) c
   never-27 c fit lent e =
-      subst (λ (n : ℕ). Short n c) (sym (agree w p t o d calls accepted proper .numbers at.threadLimit _ refl)) (row-27 log c (refused-by c fit lent 27 e))
+      subst (λ (n : ℕ). Short n c) (sym (agree w start calls accepted proper .numbers at.threadLimit _ refl)) (row-27 log c (refused-by c fit lent 27 e))

@@ -14,10 +14,10 @@ use Rattle.model.specs.Threads.{threadOf, statusOf, isThread, isWaiting, isRead
 use Rattle.model.specs.Waits.{objectAt, eventAt, asEvent, ofKind}
 use Rattle.model.specs.Fits.{Fits}
 use Rattle.model.specs.Valid.{Valid, WaitingValid, sequenceAt}
-use Rattle.model.specs.Refusal.{openRefusal}
 use Rattle.model.specs.Call.{Call, SetEvent}
 use Rattle.model.specs.Call as call
 use Rattle.model.specs.Step.{step}
+use Rattle.model.specs.Start.{Start, Accepted}
 use Rattle.model.proofs.ListLaws.{not-both}
 use Rattle.model.proofs.ThreadLaws.{stands-somewhere}
 use Rattle.model.proofs.SoundLaws.{is-thread}
@@ -47,25 +47,25 @@ event-there (some (mutex m)) e = absurd (not-both (sym e))
 event-there (some (event x)) e = (x, refl)
 event-there (some (timer x)) e = absurd (not-both (sym e))
 
-module _ (w : List ℕ) (p t o d : ℕ) (calls : List Call) (accepted : openRefusal (length w) p t o d ≡ 0) (proper : Proper (length w) calls) where
+module _ (w : List ℕ) (start : Start) (calls : List Call) (accepted : Accepted (length w) start) (proper : Proper (length w) calls) where
   abbrev words : List ℕ
-  words = end w p t o d calls
+  words = end w start calls
 
   abbrev log : State
-  log = logged w p t o d calls
+  log = logged w start calls
 
   v : Valid log
-  v = valid w p t o d calls accepted proper
+  v = valid w start calls accepted proper
 
   reads : (r : call.Read) → answered words (call.Reads r) ≡ step (call.Reads r) log .answer
-  reads r = next w p t o d calls accepted proper (call.Reads r) tt tt .answers
+  reads r = next w start calls accepted proper (call.Reads r) tt tt .answers
 
   module _ (key : ℕ) (fits : Fits (SetEvent key)) where
     abbrev after : List ℕ
     after = left words (SetEvent key)
 
     reads-after : (r : call.Read) → answered after (call.Reads r) ≡ step (call.Reads r) (step (SetEvent key) log .state) .answer
-    reads-after r = next-but-one w p t o d calls accepted proper (SetEvent key) (call.Reads r) fits tt tt tt .answers
+    reads-after r = next-but-one w start calls accepted proper (SetEvent key) (call.Reads r) fits tt tt tt .answers
 
     ready-with : (i k : ℕ) → statusOf (step (SetEvent key) log .state .dispatcher) i ≡ ready → threadOf (step (SetEvent key) log .state .dispatcher) i .result ≡ some (satisfied k) → ReadyWith after i k
     ready-with i k q r = record {

@@ -17,10 +17,10 @@ use Rattle.model.specs.Threads.{hasExited, statusOf, threadOf, isThread}
 use Rattle.model.specs.Waits.{kindOf, objectAt, asMutex, asEvent, asTimer, ofKind, namedIn, exists, isFree, isAvailable}
 use Rattle.model.specs.Valid.{WaitValid, WaitingValid}
 use Rattle.model.specs.Answer.{None}
-use Rattle.model.specs.Refusal.{openRefusal}
 use Rattle.model.specs.Call.{Call}
 use Rattle.model.specs.Call as call
 use Rattle.model.specs.Step.{step}
+use Rattle.model.specs.Start.{Start, Accepted}
 use Rattle.model.proofs.ListLaws.{not-both}
 use Rattle.model.proofs.ObjectLaws.{mutex-found, event-found, timer-found}
 use Rattle.model.proofs.History as history
@@ -40,15 +40,15 @@ kind-is k x q z = go (eqb (kindOf x) k) refl q z
     go true e q z = (sym (eqb-true (kindOf x) k e), z)
     go false e q z = absurd (not-both (sym q))
 
-module _ (w : List ℕ) (p t o d : ℕ) (calls : List Call) (accepted : openRefusal (length w) p t o d ≡ 0) (proper : Proper (length w) calls) where
+module _ (w : List ℕ) (start : Start) (calls : List Call) (accepted : Accepted (length w) start) (proper : Proper (length w) calls) where
   abbrev words : List ℕ
-  words = end w p t o d calls
+  words = end w start calls
 
   abbrev log : State
-  log = logged w p t o d calls
+  log = logged w start calls
 
   reads : (r : call.Read) → answered words (call.Reads r) ≡ step (call.Reads r) log .answer
-  reads r = next w p t o d calls accepted proper (call.Reads r) tt tt .answers
+  reads r = next w start calls accepted proper (call.Reads r) tt tt .answers
 
   -- what exists and is not available reads so
   shown : (n : Named) → exists (log .dispatcher) n ≡ true → isAvailable (log .dispatcher) n ≡ false → Unavailable words n
@@ -90,7 +90,7 @@ module _ (w : List ℕ) (p t o d : ℕ) (calls : List Call) (accepted : openRefu
 
     -- for any: none of the objects is available
     pub none-available : y .all ≡ false → (n : Named) → Mem n (y .objects) → isAvailable (log .dispatcher) n ≡ false
-    none-available all n m = history.waits-any (length w) p t o d accepted calls i y was all n m
+    none-available all n m = history.waits-any (length w) start accepted calls i y was all n m
 
     -- so no event that it waits for is signaled
     pub no-event-signaled : y .all ≡ false → (key : ℕ) → Mem (record { kind = 1; key = key }) (y .objects) → (e : Event) → EventRead words key e → e .signaled ≡ false
@@ -120,16 +120,16 @@ module _ (w : List ℕ) (p t o d : ℕ) (calls : List Call) (accepted : openRefu
 
     -- for all: one of them is not available
     pub some-unavailable : y .all ≡ true → (y .objects ≡ [] → ⊥) → (n : Named) × (Mem n (y .objects)) × (isAvailable (log .dispatcher) n ≡ false)
-    some-unavailable all n = history.waits-all (length w) p t o d accepted calls i y was all n
+    some-unavailable all n = history.waits-all (length w) start accepted calls i y was all n
 
     -- so one of them reads as not available
     pub some-unavailable-read : y .all ≡ true → (y .objects ≡ [] → ⊥) → (n : Named) × (Mem n (y .objects)) × Unavailable words n
     some-unavailable-read all h =
         let r = some-unavailable all h in
-        let v : WaitValid (log .dispatcher) y = subst (WaitingValid (log .dispatcher)) was (valid w p t o d calls accepted proper .sound .waits i) in
+        let v : WaitValid (log .dispatcher) y = subst (WaitingValid (log .dispatcher)) was (valid w start calls accepted proper .sound .waits i) in
         (r .0, r .1, shown (r .0) (v .exist (r .0) (r .1)) (r .2))
 
     -- with a deadline: it is ahead of the words' time
     pub deadline-ahead : (time : ℕ) → y .deadline ≡ some time → getD words at.now 0 < time
     deadline-ahead time q =
-        subst (λ (n : ℕ). n < time) (sym (agree w p t o d calls accepted proper .numbers at.now _ refl)) (history.deadline-ahead (length w) p t o d accepted calls i y time was q)
+        subst (λ (n : ℕ). n < time) (sym (agree w start calls accepted proper .numbers at.now _ refl)) (history.deadline-ahead (length w) start accepted calls i y time was q)

@@ -14,11 +14,12 @@ use Rattle.model.specs.Lists.{given}
 use Rattle.model.specs.State.{State}
 use Rattle.model.specs.Waits.{timerAt}
 use Rattle.model.specs.Timers.{most}
-use Rattle.model.specs.Refusal.{openRefusal, pairs, isNegative, signedDue, setSignedRefusal, unknownTimer}
+use Rattle.model.specs.Refusal.{pairs, isNegative, signedDue, setSignedRefusal, unknownTimer}
 use Rattle.model.specs.Answer.{Outcome, Flag}
 use Rattle.model.specs.Call.{Call, SetEvent, SetTimer, SetTimerSigned, CancelTimer, AdvanceTo, InsertQueueDpc, RemoveQueueDpc, Wait}
 use Rattle.model.specs.Call as call
 use Rattle.model.specs.Step.{step, refusal, effect}
+use Rattle.model.specs.Start.{Start, Accepted}
 use Rattle.model.specs.Fits.{Fits}
 use Rattle.model.specs.Wdk.{wasSignaled, inTimerQueue, InsertReports, RemoveReports, WaitReports}
 use Rattle.model.proofs.RowLaws.{passes, known}
@@ -44,36 +45,36 @@ signed-is s address due period dpc e =
     ap (λ (x : Outcome). x .answer) (step-is (SetTimerSigned address due period dpc) s e ∙ sym (step-is c s (b .1)))
     ∙ wdk.set-timer-reports s address (signedDue (s .now) due) (not (isNegative due)) period dpc (b .1)
 
-module _ (w : List ℕ) (p t o d : ℕ) (calls : List Call) (accepted : openRefusal (length w) p t o d ≡ 0) (proper : Proper (length w) calls) where
+module _ (w : List ℕ) (start : Start) (calls : List Call) (accepted : Accepted (length w) start) (proper : Proper (length w) calls) where
   abbrev words : List ℕ
-  words = end w p t o d calls
+  words = end w start calls
 
   abbrev log : State
-  log = logged w p t o d calls
+  log = logged w start calls
 
   -- KeSetEvent: whether the event was signaled
   pub set-event : (key : ℕ) → Fits (SetEvent key) → isRefused (answered words (SetEvent key)) ≡ false → answered words (SetEvent key) ≡ Flag (wasSignaled log key)
   set-event key fit e =
-      next w p t o d calls accepted proper (SetEvent key) fit tt .answers ∙ wdk.set-event-reports log key (passed-by w p t o d calls accepted proper (SetEvent key) fit tt e)
+      next w start calls accepted proper (SetEvent key) fit tt .answers ∙ wdk.set-event-reports log key (passed-by w start calls accepted proper (SetEvent key) fit tt e)
 
   -- KeSetTimerEx: whether the timer was in the timer queue
   pub set-timer : (address due : ℕ) (absolute : Bool) (period : ℤ) (dpc : ℕ) → Fits (SetTimer address due absolute period dpc)
       → isRefused (answered words (SetTimer address due absolute period dpc)) ≡ false → answered words (SetTimer address due absolute period dpc) ≡ Flag (inTimerQueue log address)
   set-timer address due absolute period dpc fit e =
       let c = SetTimer address due absolute period dpc in
-      next w p t o d calls accepted proper c fit tt .answers ∙ wdk.set-timer-reports log address due absolute period dpc (passed-by w p t o d calls accepted proper c fit tt e)
+      next w start calls accepted proper c fit tt .answers ∙ wdk.set-timer-reports log address due absolute period dpc (passed-by w start calls accepted proper c fit tt e)
 
   -- the same with a signed due
   pub set-timer-signed : (address : ℕ) (due period : ℤ) (dpc : ℕ) → Fits (SetTimerSigned address due period dpc)
       → isRefused (answered words (SetTimerSigned address due period dpc)) ≡ false → answered words (SetTimerSigned address due period dpc) ≡ Flag (inTimerQueue log address)
   set-timer-signed address due period dpc fit e =
       let c = SetTimerSigned address due period dpc in
-      next w p t o d calls accepted proper c fit tt .answers ∙ signed-is log address due period dpc (passed-by w p t o d calls accepted proper c fit tt e)
+      next w start calls accepted proper c fit tt .answers ∙ signed-is log address due period dpc (passed-by w start calls accepted proper c fit tt e)
 
   -- KeCancelTimer: whether the timer was in the timer queue, its DPC queued or not
   pub cancel-timer : (address : ℕ) → Fits (CancelTimer address) → isRefused (answered words (CancelTimer address)) ≡ false → answered words (CancelTimer address) ≡ Flag (inTimerQueue log address)
   cancel-timer address fit e =
-      next w p t o d calls accepted proper (CancelTimer address) fit tt .answers ∙ wdk.cancel-timer-reports log address (passed-by w p t o d calls accepted proper (CancelTimer address) fit tt e)
+      next w start calls accepted proper (CancelTimer address) fit tt .answers ∙ wdk.cancel-timer-reports log address (passed-by w start calls accepted proper (CancelTimer address) fit tt e)
 
   -- after an advance that is not refused
   module _ (time : ℕ) (fits : Fits (AdvanceTo time)) (advances : isRefused (answered words (AdvanceTo time)) ≡ false) (address : ℕ) (fit : Fits (CancelTimer address)) (x : Timer) (read : TimerRead words address x) where
@@ -81,55 +82,55 @@ module _ (w : List ℕ) (p t o d : ℕ) (calls : List Call) (accepted : openRefu
     later = step (AdvanceTo time) log .state
 
     passed : refusal (AdvanceTo time) log ≡ 0
-    passed = passed-by w p t o d calls accepted proper (AdvanceTo time) fits tt advances
+    passed = passed-by w start calls accepted proper (AdvanceTo time) fits tt advances
 
     was : timerAt (log .dispatcher .objects) address ≡ some x
-    was = timer-told log address x (sym (next w p t o d calls accepted proper (call.Reads (call.TimerAt address)) tt tt .answers) ∙ read)
+    was = timer-told log address x (sym (next w start calls accepted proper (call.Reads (call.TimerAt address)) tt tt .answers) ∙ read)
 
     -- what `timer` and a cancel answer then
     says : (b : Bool) → inTimerQueue later address ≡ b → CancelSays (left words (AdvanceTo time)) address b
     unfolding refusal unknownTimer
     says b q =
-        let k = timers.timer-known log (valid w p t o d calls accepted proper) time passed address x was in
+        let k = timers.timer-known log (valid w start calls accepted proper) time passed address x was in
         let y = known (timerAt (later .dispatcher .objects) address) k in
         record {
           timer = y .0;
-          read = next-but-one w p t o d calls accepted proper (AdvanceTo time) (call.Reads (call.TimerAt address)) fits tt tt tt .answers ∙ told-timer later address (y .0) (y .1);
+          read = next-but-one w start calls accepted proper (AdvanceTo time) (call.Reads (call.TimerAt address)) fits tt tt tt .answers ∙ told-timer later address (y .0) (y .1);
           is = sym (ap (λ (z : Option Timer). given z false (λ (u : Timer). u .inserted)) (y .1)) ∙ q;
-          cancel = next-but-one w p t o d calls accepted proper (AdvanceTo time) (CancelTimer address) fits tt fit tt .answers
+          cancel = next-but-one w start calls accepted proper (AdvanceTo time) (CancelTimer address) fits tt fit tt .answers
               ∙ wdk.cancel-timer-reports later address (ap (λ (z : Bool). cond z 0 2) k) ∙ ap Flag q;
         }
 
     -- a periodic timer that is set stays so, and a cancel is TRUE
     pub periodic-stays : x .inserted ≡ true → (x .«period_ms» ≡ 0 → ⊥) → CancelSays (left words (AdvanceTo time)) address true
     periodic-stays i n =
-        says true (timers.periodic-stays log (valid w p t o d calls accepted proper) time passed address x was i (ap (λ (b : Bool). cond b false true) (ne-eqb (x .«period_ms») 0 n)))
+        says true (timers.periodic-stays log (valid w start calls accepted proper) time passed address x was i (ap (λ (b : Bool). cond b false true) (ne-eqb (x .«period_ms») 0 n)))
 
     -- a one-shot that the advance has expired is not, and a cancel is FALSE, its DPC queued or not
     pub one-shot-leaves : x .inserted ≡ true → x .«period_ms» ≡ 0 → x .due ≤ time → CancelSays (left words (AdvanceTo time)) address false
     one-shot-leaves i z h =
-        says false (timers.one-shot-leaves log (valid w p t o d calls accepted proper) time passed address x was i (ap (λ (b : Bool). cond b false true) (eq-eqb (x .«period_ms») 0 z)) h)
+        says false (timers.one-shot-leaves log (valid w start calls accepted proper) time passed address x was i (ap (λ (b : Bool). cond b false true) (eq-eqb (x .«period_ms») 0 z)) h)
 
   -- KeInsertQueueDpc: TRUE if the DPC was not queued, and now it is; FALSE if it was, and then nothing of it changes
   pub insert-dpc : (address first second : ℕ) → Fits (InsertQueueDpc address first second) → isRefused (answered words (InsertQueueDpc address first second)) ≡ false
       → InsertReports log (step (InsertQueueDpc address first second) log .state) address (answered words (InsertQueueDpc address first second))
   insert-dpc address first second fit e =
       let c = InsertQueueDpc address first second in
-      subst (InsertReports log (step c log .state) address) (sym (next w p t o d calls accepted proper c fit tt .answers))
-      (wdk.insert-dpc-reports log (valid w p t o d calls accepted proper) address first second (passed-by w p t o d calls accepted proper c fit tt e))
+      subst (InsertReports log (step c log .state) address) (sym (next w start calls accepted proper c fit tt .answers))
+      (wdk.insert-dpc-reports log (valid w start calls accepted proper) address first second (passed-by w start calls accepted proper c fit tt e))
 
   -- KeRemoveQueueDpc: whether the DPC was queued; now it is not
   pub remove-dpc : (address : ℕ) → Fits (RemoveQueueDpc address) → isRefused (answered words (RemoveQueueDpc address)) ≡ false
       → RemoveReports log (step (RemoveQueueDpc address) log .state) address (answered words (RemoveQueueDpc address))
   remove-dpc address fit e =
       let c = RemoveQueueDpc address in
-      subst (RemoveReports log (step c log .state) address) (sym (next w p t o d calls accepted proper c fit tt .answers))
-      (wdk.remove-dpc-reports log (valid w p t o d calls accepted proper) address (passed-by w p t o d calls accepted proper c fit tt e))
+      subst (RemoveReports log (step c log .state) address) (sym (next w start calls accepted proper c fit tt .answers))
+      (wdk.remove-dpc-reports log (valid w start calls accepted proper) address (passed-by w start calls accepted proper c fit tt e))
 
   -- KeWaitForMultipleObjects: satisfied, timed out or blocked, and what is taken, of every wait
   pub wait : (l : List ℕ) (all : Bool) (deadline : Option ℕ) (irql : ℕ) → Fits (Wait l all deadline irql) → isRefused (answered words (Wait l all deadline irql)) ≡ false
       → WaitReports log (step (Wait l all deadline irql) log .state) (log .dispatcher .current) (pairs l) all deadline (answered words (Wait l all deadline irql))
   wait l all deadline irql fit e =
       let c = Wait l all deadline irql in
-      subst (WaitReports log (step c log .state) (log .dispatcher .current) (pairs l) all deadline) (sym (next w p t o d calls accepted proper c fit tt .answers))
-      (wdk.wait-reports log l all deadline irql (passed-by w p t o d calls accepted proper c fit tt e))
+      subst (WaitReports log (step c log .state) (log .dispatcher .current) (pairs l) all deadline) (sym (next w start calls accepted proper c fit tt .answers))
+      (wdk.wait-reports log l all deadline irql (passed-by w start calls accepted proper c fit tt e))

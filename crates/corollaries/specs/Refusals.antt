@@ -1,4 +1,4 @@
--- Which answers are refusals, and which calls may answer 27 after an accepted `open`.
+-- Which answers are refusals, and which calls may answer 27 after an accepted start.
 use Prim.Native.Nat.{ℕ, _<_}
 use mathlib.Core.Bool.{Bool, true, false}
 use mathlib.Core.Logic.{_⊎_}

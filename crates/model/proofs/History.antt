@@ -1,4 +1,4 @@
--- What holds after any list of calls that follows an accepted `open`: demand 3's clauses, over the log.
+-- What holds after any list of calls that follows an accepted start: demand 3's clauses, over the log.
 use Prim.Native.Nat.{ℕ, _+_, _≤_, _<_}
 use mathlib.Core.List.{List, [], _∷_}
 use mathlib.Core.Bool.{Bool, true, false, cond}
@@ -12,15 +12,17 @@ use Rattle.model.specs.State.{State, Dispatcher, Named, Wait, Status, re
 use Rattle.model.specs.Threads.{statusOf, isReady, isWaiting, waitOf}
 use Rattle.model.specs.Waits.{isAvailable, everyAvailable, reached, canWake, isMet}
 use Rattle.model.specs.Dpcs.{phaseAt, isQueued}
-use Rattle.model.specs.Refusal.{openRefusal, advanceRefusal}
+use Rattle.model.specs.Refusal.{advanceRefusal}
 use Rattle.model.specs.Answer.{Run}
 use Rattle.model.specs.Call.{Call, Dispatch}
-use Rattle.model.specs.Step.{opened, step, after}
+use Rattle.model.specs.Step.{step, after}
+use Rattle.model.specs.Start.{Start, Accepted, begun}
 use Rattle.model.specs.Choice.{Right}
 use Rattle.model.specs.Valid.{RisingBy, sequenceAt, workAt, activeCount, returningCount, Valid}
 use Rattle.model.proofs.ListLaws.{not-both, any-false, member-mem, mem-member}
 use Rattle.model.proofs.KeepLaws.{ready-only}
-use Rattle.model.proofs.StepLaws.{valid-opened, valid-after}
+use Rattle.model.proofs.StepLaws.{valid-after}
+use Rattle.model.proofs.StartLaws.{valid-begun}
 use Rattle.model.proofs.ChoiceLaws.{dispatch-right}
 use Rattle.model.proofs.NeverLaws.{advance-never-21}
 
@@ -33,12 +35,12 @@ none-every d (x ∷ xs) e = go (isAvailable d x) refl e (none-every d xs)
     go true q z ih = let r = ih z in (r .0, inr (r .1), r .2)
     go false q z ih = (x, inl refl, q)
 
-module _ (words p t o d : ℕ) (accepted : openRefusal words p t o d ≡ 0) (calls : List Call) where
+module _ (words : ℕ) (start : Start) (accepted : Accepted words start) (calls : List Call) where
   abbrev s : State
-  s = after calls (opened p t o d)
+  s = after calls (begun start)
 
   pub valid : Valid s
-  valid = valid-after calls (opened p t o d) (valid-opened words p t o d accepted)
+  valid = valid-after calls (begun start) (valid-begun words start accepted)
 
   -- the queue holds each queued DPC once, by acceptance
   pub queue-queued : (a : ℕ) → member a (s .dpcs .queue) ≡ isQueued (phaseAt (s .dpcs .table) a)

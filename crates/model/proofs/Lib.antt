@@ -22,3 +22,4 @@ pub mod OrderLaws
 pub mod TimerLaws
 pub mod History
 pub mod FitsLaws
+pub mod StartLaws

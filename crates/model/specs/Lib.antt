@@ -10,6 +10,7 @@ pub mod Timers
 pub mod Refusal
 pub mod Reads
 pub mod Step
+pub mod Start
 pub mod Samples
 pub mod Valid
 pub mod Choice

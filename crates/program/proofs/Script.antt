@@ -35,13 +35,14 @@ use Rattle.model.specs.Answer as log
 use Rattle.model.specs.Call.{Call}
 use Rattle.model.specs.Call as call
 use Rattle.model.specs.Refusal.{openRefusal, wordsNeeded}
-use Rattle.model.specs.Step.{step, refusal, effect, opened}
+use Rattle.model.specs.Step.{step, refusal}
+use Rattle.model.specs.Start.{Start, byOpen, Accepted}
 use Rattle.model.specs.Valid.{Valid}
 use Rattle.model.specs.Fits.{Fits, Numbers}
 use Rattle.model.proofs.ListLaws.{not-both}
-use Rattle.model.proofs.StepLaws.{valid-step, valid-opened}
-use Rattle.model.proofs.FitsLaws.{numbers-step, numbers-opened}
-use Rattle.model.proofs.WdkLaws.{step-is}
+use Rattle.model.proofs.StepLaws.{valid-step}
+use Rattle.model.proofs.FitsLaws.{numbers-step}
+use Rattle.model.proofs.StartLaws.{first-step, valid-begun, numbers-begun}
 use Rattle.call_answers.specs.Told.{told, toldWork}
 use Rattle.calls.specs.Guard as kind
 use Rattle.calls.specs.Called.{Reading, tells, images, Meaning, opens, acts, starts, dispatches, reads, meaning, ReadResult, Result, called}
@@ -51,11 +52,11 @@ use Rattle.agreement_lengths.proofs.Calls.{keeps-length}
 use Rattle.agreement_lengths.proofs.Dispatcher.{length-dispatched}
 use Rattle.agreement_form.proofs.Passes.{passes}
 use Rattle.agreement.proofs.Matches.{step-refused}
-use Rattle.agreement_threads.proofs.Open as words-open
 use Rattle.agreement_threads.proofs.Open.{open-refusal}
 use Rattle.agreement_threads.proofs.Dispatch.{agree-dispatch}
 use Rattle.agreement_calls.proofs.Guards.{dispatch-is}
 use Rattle.agreement_calls.proofs.Calls.{matches}
+use Rattle.theorem.proofs.Start.{agree-begun}
 use Rattle.runner.specs.declared.session.Session.{Session}
 use Rattle.runner.specs.declared.session.Step.{Step}
 use Rattle.runner.specs.Session as program
@@ -269,6 +270,9 @@ module _ (w out : List ℕ) (s : Session) (st : State) (h : Stands w out s st) w
     refusal-is : (p : ℕ) → openRefusal (wordsNeeded 16 64 64) p 16 64 64 ≡ openRefusal (length w) p 16 64 64
     refusal-is p = ap (λ (n : ℕ). openRefusal n p 16 64 64) (sym (h .long))
 
+    abbrev start : ℕ → Start
+    start p = byOpen p 16 64 64
+
     abbrev with-opened : Bool → Session
     with-opened b = record { opened = b; timed = s .timed; clock = s .clock }
 
@@ -277,13 +281,12 @@ module _ (w out : List ℕ) (s : Session) (st : State) (h : Stands w out s st) w
     unfolding called words.opened
     opened-is p b e = ap (λ (x : Bool). cond x (outcome answer.Done (words.started w p 16 64 64)) (outcome (answer.Refused (words.openRefusal w p 16 64 64)) w)) e
 
-    accepted-same : (p : ℕ) → openRefusal (length w) p 16 64 64 ≡ 0 → Agree (opensWith w p .words) (opened p 16 64 64)
-        → Same (begins p) (performedAs (openedBy s (opensWith w p .answer)) (opensWith w p .words) out) (beginning s st p)
-    unfolding refusal effect accepts
-    accepted-same p e a =
+    accepted-same : (p : ℕ) → Accepted (length w) (start p) → Same (begins p) (performedAs (openedBy s (opensWith w p .answer)) (opensWith w p .words) out) (beginning s st p)
+    unfolding accepts
+    accepted-same p e =
         let x = opened-is p true (eq-eqb (words.openRefusal w p 16 64 64) 0 (open-refusal w p 16 64 64 ∙ e)) in
-        let l : step (opening p) st ≡ gives log.Done (opened p 16 64 64) = step-is (opening p) st (refusal-is p ∙ e) in
-        let after : step (opening p) st .state ≡ opened p 16 64 64 = ap (λ (y : Outcome). y .state) l in
+        let l = first-step (wordsNeeded 16 64 64) (start p) (refusal-is p ∙ e) st in
+        let after = ap (λ (y : Outcome). y .state) l in
         record {
           answer = ap (λ (y : code-outcome.Outcome). told (y .answer)) x ∙ sym (ap (λ (y : Outcome). y .answer) l);
           session = ap with-opened (ap (λ (y : code-outcome.Outcome). accepts (y .answer)) x ∙ sym (eq-eqb (openRefusal (wordsNeeded 16 64 64) p 16 64 64) 0 (refusal-is p ∙ e)));
@@ -291,9 +294,9 @@ module _ (w out : List ℕ) (s : Session) (st : State) (h : Stands w out s st) w
             long = keeps-length w (call.Open (length w) p 16 64 64) ∙ h .long;
             room = h .room;
             agrees = λ z. record {
-              agree = subst (Agree (opensWith w p .words)) (sym after) a;
-              valid = subst Valid (sym after) (valid-opened (length w) p 16 64 64 e);
-              numbers = subst Numbers (sym after) (numbers-opened p 16 64 64);
+              agree = subst (Agree (opensWith w p .words)) (sym after) (agree-begun w (start p) e);
+              valid = subst Valid (sym after) (valid-begun (length w) (start p) e);
+              numbers = subst Numbers (sym after) (numbers-begun (length w) (start p) e);
             };
           };
         }
@@ -317,11 +320,10 @@ module _ (w out : List ℕ) (s : Session) (st : State) (h : Stands w out s st) w
         }
 
     opens-same : (p : ℕ) → Same (begins p) (performedAs (openedBy s (opensWith w p .answer)) (opensWith w p .words) out) (beginning s st p)
-    unfolding called
     opens-same p = go (ℕ-discrete (openRefusal (length w) p 16 64 64) 0)
       where
         go : Dec (openRefusal (length w) p 16 64 64 ≡ 0) → Same (begins p) (performedAs (openedBy s (opensWith w p .answer)) (opensWith w p .words) out) (beginning s st p)
-        go (yes e) = accepted-same p e (words-open.opens w p 16 64 64 e)
+        go (yes e) = accepted-same p e
         go (no n) = refused-same p n
 
     begins-as : (m : Asked) → Same m (begun w out s m) (whenClosed s st m)

@@ -1,4 +1,4 @@
--- The statement of the theorem: what holds after ANY list of calls that begins with an `open` that the table accepts, over ANY lent
+-- The statement of the theorem: what holds after ANY list of calls that begins with a start that the table accepts, over ANY lent
 -- words. The log is told the calls alone; the words are what the code keeps.
 use Prim.Native.Nat.{ℕ}
 use mathlib.Core.List.{List, _∷_}
@@ -10,9 +10,9 @@ use Rattle.chains.specs.Ready.{waitersChain}
 use Rattle.form.specs.Form.{inForm}
 use Rattle.model.specs.State.{State}
 use Rattle.model.specs.Answer.{Done}
-use Rattle.model.specs.Call.{Call, Open}
-use Rattle.model.specs.Step.{opened}
+use Rattle.model.specs.Call.{Call}
 use Rattle.model.specs.Step as log
+use Rattle.model.specs.Start.{Start, firstCall, begun}
 use Rattle.model.specs.Valid.{Valid}
 use Rattle.agreement_chains.specs.Chains.{Holds}
 use Rattle.agreement_chains.specs.Ready.{ReadyQueues}
@@ -21,18 +21,18 @@ use Rattle.agreement.specs.Chains.{queuesOf, queueFrom}
 use Rattle.agreement.specs.Agree.{dpcsFrom, Agree}
 use Rattle.theorem.specs.History.{answersOn, wordsAfter}
 
-module _ (w : List ℕ) (p t o d : ℕ) (calls : List Call) where
+module _ (w : List ℕ) (start : Start) (calls : List Call) where
   -- the log's state at the end
   abbrev pub logged : State
-  logged = log.after calls (opened p t o d)
+  logged = log.after calls (begun start)
 
-  -- the words at the end: the `open` on the lent words, then the calls
+  -- the words at the end: the first call on the lent words, then the calls
   abbrev pub end : List ℕ
-  end = wordsAfter w (Open (length w) p t o d ∷ calls)
+  end = wordsAfter w (firstCall (length w) start ∷ calls)
 
   pub record Theorem : Type 0 where
     -- the answers are the log's, so the refused calls are exactly those that the table refuses over the log, by its numbers
-    pub answers : answersOn w (Open (length w) p t o d ∷ calls) ≡ Done ∷ log.answers calls (opened p t o d)
+    pub answers : answersOn w (firstCall (length w) start ∷ calls) ≡ Done ∷ log.answers calls (begun start)
     -- the ready queue of each priority, with the ready word, holds the placed threads of that priority in the order of their placing
     pub ready : ReadyQueues end (queuesOf (logged .dispatcher .threads) (logged .dispatcher .placed))
     -- the waiters' chain holds the waiting threads in the order of blocking
