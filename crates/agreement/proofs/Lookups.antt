@@ -147,6 +147,12 @@ module _ (w : List ℕ) (s : State) (holder : ℕ → ℕ) (active : ℕ) (a : A
 
 -- ---- the tables: where a key's record stands
 
+-- word 1 of a record is its kind
+pub row-kind : (x : Object) → getD (objectRow x) 1 none ≡ some (kindOf x)
+row-kind (mutex m) = refl
+row-kind (event v) = refl
+row-kind (timer t) = refl
+
 module _ (w : List ℕ) (s : State) (holder : ℕ → ℕ) (active : ℕ) (a : Agreeing w s holder active) where
   low : objectsFrom (s .limits) ≤ 1000000
   low = omega (arith, a .shape .sizes .limits .threads)
@@ -164,12 +170,7 @@ module _ (w : List ℕ) (s : State) (holder : ℕ → ℕ) (active : ℕ) (a : A
       go (timer t) = refl
 
   pub object-kinds : (i : ℕ) (x : Object) → nth (s .dispatcher .objects) i ≡ some x → getD w (objectsFrom (s .limits) + 32 * i + 1) 0 ≡ kindOf x
-  object-kinds i x e = a .objects i x e 1 (kindOf x) (go x)
-    where
-      go : (x : Object) → getD (objectRow x) 1 none ≡ some (kindOf x)
-      go (mutex m) = refl
-      go (event v) = refl
-      go (timer t) = refl
+  object-kinds i x e = a .objects i x e 1 (kindOf x) (row-kind x)
 
   pub dpc-keys : (i : ℕ) (d : Dpc) → nth (s .dpcs .table) i ≡ some d → getD w (dpcsFrom (s .limits) + 32 * i) 0 ≡ addressOf d
   dpc-keys i d e = ap (λ (p : ℕ). getD w p 0) (let q : dpcsFrom (s .limits) + 32 * i ≡ dpcsFrom (s .limits) + 32 * i + 0 = omega arith in q) ∙ a .dpcs i d e 0 (d .address) refl

@@ -8,9 +8,9 @@ use lib.ListN.{length}
 use Rattle.images.specs.declared.Dpc.{Dpc}
 use Rattle.model.specs.Lists.{Mem, Distinct, present}
 use Rattle.model.specs.Table.{Rising}
-use Rattle.model.specs.State.{Limits, Thread, Status, running, ready, waiting, exited, Wait, Named, Object, mutex, event, timer}
+use Rattle.model.specs.State.{Limits, Thread, Status, running, ready, waiting, exited, Wait, Named, Object}
 use Rattle.model.specs.Threads.{threadAt}
-use Rattle.model.specs.Waits.{keyOf}
+use Rattle.model.specs.Waits.{keyOf, onTimer}
 use Rattle.model.specs.Dpcs.{addressOf, dpcAt}
 use Rattle.model.specs.Timers.{most}
 use Rattle.model.specs.Valid.{LimitsValid, Each}
@@ -45,9 +45,7 @@ ThreadsFit l = (i : ℕ) → 1 ≤ i → i ≤ length l → ThreadFits (threadAt
 
 -- an arm count and a due that have not passed 2^64 − 1: the code looks for the end itself
 abbrev pub ObjectFits : Object → Type 0
-ObjectFits (mutex m) = Unit
-ObjectFits (event e) = Unit
-ObjectFits (timer t) = (t .«arm_generation» ≤ most) × (t .due ≤ most)
+ObjectFits = onTimer Unit (λ t. (t .«arm_generation» ≤ most) × (t .due ≤ most))
 
 -- no DPC stands at 0; addresses rise; the queue is of DPCs, none twice
 pub record DpcsFit (table : List Dpc) (queue : List ℕ) : Type 0 where

@@ -15,9 +15,10 @@ use Rattle.expiry_order.specs.Order.{dueAt, goesFirst, put, sorted}
 use Rattle.expiry_advance.specs.Advance.{arranged, order}
 use Rattle.images.specs.declared.Timer.{Timer}
 use Rattle.model.specs.Lists.{nth, keep}
-use Rattle.model.specs.State.{State, Object, mutex, event, timer, Policy, unselected, cpu0Dispatch}
-use Rattle.model.specs.Waits.{timersOf}
+use Rattle.model.specs.State.{State, Object, timer, Policy, unselected, cpu0Dispatch}
+use Rattle.model.specs.Waits.{onTimer, timersOf}
 use Rattle.model.specs.Timers.{isDue, insertByDue, byDue, inOrder, dueTimers}
+use Rattle.model.proofs.ObjectLaws.{on-timer₂, on-timer}
 use Rattle.agreement_tables.proofs.Lists.{nth-in}
 use Rattle.agreement.specs.Row.{Row}
 use Rattle.agreement.specs.Records.{flag, timerRow, policyNumber}
@@ -51,28 +52,24 @@ module _ (w : List ℕ) (s : State) (holder : ℕ → ℕ) (active : ℕ) (a : A
 
   module _ (time : ℕ) where
     abbrev dueObject : Object → Bool
-    dueObject (mutex m) = false
-    dueObject (event v) = false
-    dueObject (timer t) = isDue time t
+    dueObject = onTimer false (isDue time)
 
     due-is : (i : ℕ) (x : Object) → nth objects i ≡ some x → words.isDue w (entryAt base i) time ≡ dueObject x
     unfolding words.isDue
-    due-is i (mutex m) e = simp (entry-is i (mutex m) e, object-kinds w s holder active a i (mutex m) e)
-    due-is i (event v) e = simp (entry-is i (event v) e, object-kinds w s holder active a i (event v) e)
-    due-is i (timer t) e =
-        let r = timer-row-at i t e in
+    due-is i x e = on-timer (λ b. words.isDue w (entryAt base i) time ≡ b) x (λ n. simp (entry-is i x e, object-kinds w s holder active a i x e, n)) λ t z.
+        let r = timer-row-at i t (e ∙ ap some z) in
         let q : words.isDue w (entryAt base i) time ≡ cond (eqb (flag (t .inserted)) 0) false (leb (t .due) time) = simp (r 1 2 refl, r 5 (flag (t .inserted)) refl, r 6 (t .due) refl) in
-        q ∙ go (t .inserted)
+        q ∙ go t (t .inserted)
       where
-        go : (b : Bool) → cond (eqb (flag b) 0) false (leb (t .due) time) ≡ cond b (leb (t .due) time) false
-        go true = refl
-        go false = refl
+        go : (t : Timer) (b : Bool) → cond (eqb (flag b) 0) false (leb (t .due) time) ≡ cond b (leb (t .due) time) false
+        go t true = refl
+        go t false = refl
 
     due-along : (l : List Object) (i : ℕ) → ((j : ℕ) (x : Object) → nth l j ≡ some x → nth objects (i + j) ≡ some x)
         → Names objects (words.dueIn (length l) w base i time) (keep (isDue time) (timersOf l))
     unfolding words.dueIn
     due-along [] i h = tt
-    due-along (x ∷ xs) i h = go x here (due-along xs (i + 1) later)
+    due-along (x ∷ xs) i h = go (due-along xs (i + 1) later)
       where
         here : nth objects i ≡ some x
         here = ap (nth objects) (let q : i ≡ i + 0 = omega arith in q) ∙ h 0 x refl
@@ -83,15 +80,18 @@ module _ (w : List ℕ) (s : State) (holder : ℕ → ℕ) (active : ℕ) (a : A
         rest : List ℕ
         rest = words.dueIn (length xs) w base (i + 1) time
 
-        go : (x : Object) → nth objects i ≡ some x → Names objects rest (keep (isDue time) (timersOf xs))
-            → Names objects (cond (words.isDue w (entryAt base i) time) (i ∷ rest) rest) (keep (isDue time) (timersOf (x ∷ xs)))
-        go (mutex m) e ih = subst (λ (b : Bool). Names objects (cond b (i ∷ rest) rest) (keep (isDue time) (timersOf xs))) (sym (due-is i (mutex m) e)) ih
-        go (event v) e ih = subst (λ (b : Bool). Names objects (cond b (i ∷ rest) rest) (keep (isDue time) (timersOf xs))) (sym (due-is i (event v) e)) ih
-        go (timer t) e ih = subst (λ (b : Bool). Names objects (cond b (i ∷ rest) rest) (keep (isDue time) (t ∷ timersOf xs))) (sym (due-is i (timer t) e)) (both (isDue time t))
-          where
-            both : (b : Bool) → Names objects (cond b (i ∷ rest) rest) (cond b (t ∷ keep (isDue time) (timersOf xs)) (keep (isDue time) (timersOf xs)))
-            both true = (e, ih)
-            both false = ih
+        dues : List Timer
+        dues = keep (isDue time) (timersOf xs)
+
+        both : (t : Timer) → nth objects i ≡ some (timer t) → Names objects rest dues → (b : Bool) → Names objects (cond b (i ∷ rest) rest) (cond b (t ∷ dues) dues)
+        both t e ih true = (e, ih)
+        both t e ih false = ih
+
+        go : Names objects rest dues → Names objects (cond (words.isDue w (entryAt base i) time) (i ∷ rest) rest) (keep (isDue time) (timersOf (x ∷ xs)))
+        go ih = on-timer₂ (λ b ts. words.isDue w (entryAt base i) time ≡ b → Names objects (cond (words.isDue w (entryAt base i) time) (i ∷ rest) rest) (keep (isDue time) ts)) x
+            (λ n q. subst (λ (b : Bool). Names objects (cond b (i ∷ rest) rest) dues) (sym q) ih)
+            (λ t z q. subst (λ (b : Bool). Names objects (cond b (i ∷ rest) rest) (cond (isDue time t) (t ∷ dues) dues)) (sym q) (both t (here ∙ ap some z) ih (isDue time t)))
+            (due-is i x here)
 
     pub due-names : Names (s .dispatcher .objects) (words.dueList w time) (keep (isDue time) (timersOf (s .dispatcher .objects)))
     unfolding words.dueList

@@ -3,7 +3,7 @@ use Prim.Native.Nat.{ℕ, suc, _+_, _*_, _<_}
 use mathlib.Core.List.{List, [], _∷_}
 use mathlib.Core.Bool.{Bool, true, false, cond, not}
 use mathlib.Core.Option.{Option, none, some}
-use mathlib.Core.Path.{_≡_, refl, sym, ap, _∙_}
+use mathlib.Core.Path.{_≡_, refl, sym, ap, _∙_, subst}
 use native.Mathlib.Omega.{arith}
 use borrow.Author.Tests.{eqb-true, eqb-false, ne-eqb}
 use lib.Dec.{eqb}
@@ -14,14 +14,15 @@ use Rattle.images.specs.declared.Timer.{Timer}
 use Rattle.images.specs.declared.Dpc.{Dpc}
 use Rattle.objects.specs.Objects.{objectsBase, dpcFound}
 use Rattle.dpcs.specs.Named as words
-use Rattle.model.specs.Lists.{Mem, nth, present}
-use Rattle.model.specs.State.{State, Object, mutex, event, timer}
-use Rattle.model.specs.Waits.{keyOf, timersOf}
+use Rattle.model.specs.Lists.{Mem, any, nth, present}
+use Rattle.model.specs.State.{State, Object, timer}
+use Rattle.model.specs.Waits.{keyOf, kindOf, timersOf}
 use Rattle.model.specs.Dpcs.{addressOf, dpcAt}
 use Rattle.model.specs.Timers.{isNamed}
 use Rattle.model.specs.Valid.{Valid, Served}
 use Rattle.model.proofs.ListLaws.{not-both, any-none}
 use Rattle.model.proofs.TableLaws.{each-mem, found}
+use Rattle.model.proofs.ObjectLaws.{on-timer₂, on-timer}
 use Rattle.model.proofs.LinkLaws.{mem-timer}
 use Rattle.agreement_tables.proofs.Lists.{nth-in}
 use Rattle.agreement.specs.Row.{Row}
@@ -29,7 +30,7 @@ use Rattle.agreement.specs.Records.{flag, objectRow, holds, holderOf, activeAdd
 use Rattle.agreement.specs.Agree.{objectsFrom, Agree}
 use Rattle.agreement.proofs.Places.{entry-place}
 use Rattle.agreement.proofs.Headers.{objects-few}
-use Rattle.agreement.proofs.Lookups.{base-is, object-count-is, dpc-place, dpc-row}
+use Rattle.agreement.proofs.Lookups.{base-is, object-count-is, row-kind, dpc-place, dpc-row}
 use Rattle.agreement_work.proofs.Holders.{has}
 use Rattle.agreement_work.proofs.Named.{holds-parts, is-named}
 use Rattle.agreement_dpc.proofs.Found.{place-none}
@@ -37,13 +38,12 @@ use Rattle.agreement_dpc.proofs.Found.{place-none}
 -- an object's record tells whether it is an inserted timer without a DPC
 bare-is : (w : List ℕ) (place : ℕ) (x : Object) → Row w place (objectRow x) → words.isBare w place ≡ has 0 x
 unfolding words.isBare
-bare-is w place (mutex m) r = simp (r 1 0 refl)
-bare-is w place (event e) r = simp (r 1 1 refl)
-bare-is w place (timer t) r = simp (r 1 2 refl, r 5 (flag (t .inserted)) refl, r 8 (t .dpc) refl, go (t .inserted))
+bare-is w place x r = on-timer (λ b. words.isBare w place ≡ b) x (λ n. simp (r 1 (kindOf x) (row-kind x), n)) λ t q.
+    let z = subst (λ (y : Object). Row w place (objectRow y)) q r in simp (z 1 2 refl, z 5 (flag (t .inserted)) refl, z 8 (t .dpc) refl, go t (t .inserted))
   where
-    go : (b : Bool) → cond (eqb (flag b) 0) false (eqb (t .dpc) 0) ≡ cond b (eqb (t .dpc) 0) false
-    go true = refl
-    go false = refl
+    go : (t : Timer) (b : Bool) → cond (eqb (flag b) 0) false (eqb (t .dpc) 0) ≡ cond b (eqb (t .dpc) 0) false
+    go t true = refl
+    go t false = refl
 
 -- one of the objects from position `i` on
 bare-in : (w : List ℕ) (base : ℕ) (xs : List Object) (i : ℕ) → ((j : ℕ) (x : Object) → nth xs j ≡ some x → words.isBare w (entryAt base (i + j)) ≡ has 0 x) → words.bareIn (length xs) w base i ≡ isNamed xs 0
@@ -52,12 +52,7 @@ bare-in w base [] i h = refl
 bare-in w base (x ∷ xs) i h =
     ap (λ (b : Bool). cond b true (words.bareIn (length xs) w base (i + 1))) (ap (λ (j : ℕ). words.isBare w (entryAt base j)) (let z : i ≡ i + 0 = omega arith in z) ∙ h 0 x refl)
     ∙ ap (λ (b : Bool). cond (has 0 x) true b) (bare-in w base xs (i + 1) (λ j y e. ap (λ (k : ℕ). words.isBare w (entryAt base k)) (let z : i + 1 + j ≡ i + suc j = omega arith in z) ∙ h (suc j) y e))
-    ∙ go x
-  where
-    go : (x : Object) → cond (has 0 x) true (isNamed xs 0) ≡ isNamed (x ∷ xs) 0
-    go (mutex m) = refl
-    go (event e) = refl
-    go (timer t) = refl
+    ∙ on-timer₂ (λ b ts. cond b true (isNamed xs 0) ≡ any (holds 0) ts) x (λ n. refl) (λ t q. refl)
 
 module _ (w : List ℕ) (s : State) (a : Agree w s) (v : Valid s) where
   abbrev objects : List Object

@@ -13,11 +13,12 @@ use Rattle.images.specs.declared.Dpc.{Dpc}
 use Rattle.objects.specs.Objects.{objectFound, dpcFound}
 use Rattle.model.specs.Lists.{Mem, present}
 use Rattle.model.specs.Table.{find}
-use Rattle.model.specs.State.{Object, mutex, event, timer}
+use Rattle.model.specs.State.{Object}
 use Rattle.model.specs.Waits.{keyOf, objectAt, timersOf}
 use Rattle.model.specs.Dpcs.{dpcAt}
 use Rattle.model.specs.Valid.{Alone}
 use Rattle.model.proofs.ListLaws.{not-both}
+use Rattle.model.proofs.ObjectLaws.{at-timer, each-timer}
 use Rattle.model.proofs.LinkLaws.{timer-found-mem}
 use Rattle.agreement_tables.proofs.Lookups.{object-known}
 use Rattle.agreement.specs.Agree.{Agreeing, objectsFrom, dpcsFrom}
@@ -44,18 +45,12 @@ module _ (w : List ℕ) (words : Words w) (p : Parts w) where
   serves t m e q = serves-form w (t .dpc) (t .address) (timer-served w (p .objects) t m e q)
 
   served : (k : ℕ) (x : Object) → objectAt objects k ≡ some x → Exists (tableOf w) x
-  served k (mutex m) e = tt
-  served k (event m) e = tt
-  served k (timer t) e = λ i d. ap present (found-there w words p (t .dpc) (serves t (timer-found-mem objects k t e) i d .0) .1)
+  served = each-timer objects λ k t e i d. ap present (found-there w words p (t .dpc) (serves t (timer-found-mem objects k t e) i d .0) .1)
 
   alone : (k : ℕ) (x : Object) → objectAt objects k ≡ some x → (j : ℕ) (y : Object) → objectAt objects j ≡ some y → Alone x y
-  alone k (mutex m) e j y f = tt
-  alone k (event m) e j y f = tt
-  alone k (timer t) e j (mutex m) f = tt
-  alone k (timer t) e j (event m) f = tt
-  alone k (timer t) e j (timer u) f = λ a b q r.
-      sym (serves t (timer-found-mem objects k t e) a q .1) ∙ ap (λ (d : ℕ). getD w (dpcFound w d + at.namedBy) 0) r
-      ∙ serves u (timer-found-mem objects j u f) b (λ z. q (r ∙ z)) .1
+  alone k x e j y f = at-timer x λ t g. at-timer y λ u h a b q r.
+      sym (serves t (timer-found-mem objects k t (e ∙ ap some g)) a q .1) ∙ ap (λ (d : ℕ). getD w (dpcFound w d + at.namedBy) 0) r
+      ∙ serves u (timer-found-mem objects j u (f ∙ ap some h)) b (λ z. q (r ∙ z)) .1
 
   -- no object stands where a DPC does
   no-object : (i : ℕ) → i < getD w at.dpcs 0 → present (find keyOf objects (dpcOf w i .address)) ≡ false

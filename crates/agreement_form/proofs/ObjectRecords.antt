@@ -22,6 +22,7 @@ use Rattle.model.specs.Waits.{keyOf, objectAt}
 use Rattle.model.specs.Valid.{Placed, OwnerLive}
 use Rattle.model.specs.Fits.{TimerFits}
 use Rattle.model.proofs.ListLaws.{not-both}
+use Rattle.model.proofs.ObjectLaws.{on-timer}
 use Rattle.model.proofs.LinkLaws.{timer-mem}
 use Rattle.images.specs.Place.{timerSize}
 use Rattle.agreement_tables.proofs.Lists.{nth-some, nth-mem, find-nth, nth-in}
@@ -49,9 +50,8 @@ is-one n (suc i) e = (omega arith, leb-true (suc i) n (ap (λ (b : Bool). cond b
 
 -- no key is 0
 key-there : (x : Object) → Placed x → keyOf x ≡ 0 → ⊥
-key-there (mutex m) p = p
-key-there (event e) p = p
-key-there (timer t) p = not-at-zero (t .address) (timerSize (t .architecture)) (t .architecture) (t .backing) p
+key-there x = on-timer (λ (Q : Type 0). Q → keyOf x ≡ 0 → ⊥) x (λ n p. p)
+    (λ t q p z. not-at-zero (t .address) (timerSize (t .architecture)) (t .architecture) (t .backing) p (sym (ap keyOf q) ∙ z))
 
 module _ (w : List ℕ) (s : State) (a : Agree w s) (v : Form s) where
   abbrev objects : List Object

@@ -2,15 +2,14 @@
 use Prim.Native.Nat.{ℕ}
 use mathlib.Core.List.{List}
 use mathlib.Core.Bool.{true}
-use mathlib.Core.Option.{some}
 use mathlib.Core.Path.{_≡_}
 use Rattle.form.specs.Form.{inForm}
-use Rattle.model.specs.State.{State, Object, mutex, event, timer}
-use Rattle.model.specs.Waits.{objectAt}
+use Rattle.model.specs.State.{State}
 use Rattle.model.specs.Valid.{Valid}
 use Rattle.model.specs.Fits.{Numbers}
+use Rattle.model.proofs.ObjectLaws.{map-timer}
 use Rattle.agreement.specs.Agree.{Agree}
-use Rattle.agreement_form.specs.Form.{Exists, Form}
+use Rattle.agreement_form.specs.Form.{Form}
 use Rattle.agreement_form.proofs.Header.{limits-pass, long-enough, header-numbers}
 use Rattle.agreement_form.proofs.ThreadWaits.{threads-pass}
 use Rattle.agreement_form.proofs.ObjectRecords.{objects-pass}
@@ -56,17 +55,12 @@ valid-form s v n =
         one-active = v .queueing .one-active;
         returns = v .queueing .returns;
       };
-      linked = record { served = served; alone = v .linked .alone; apart = v .linked .apart };
+      linked = record { served = λ k x e. map-timer (λ t h i d. h i d .0) x (v .linked .served k x e); alone = v .linked .alone; apart = v .linked .apart };
       policy = v .policy;
       timers-lived = v .timers-lived;
       dpcs-lived = v .dpcs-lived;
       numbers = n;
     }
-  where
-    served : (k : ℕ) (x : Object) → objectAt (s .dispatcher .objects) k ≡ some x → Exists (s .dpcs .table) x
-    served k (mutex m) e = tt
-    served k (event m) e = tt
-    served k (timer t) e = λ i d. v .linked .served k (timer t) e i d .0
 
 pub passes : (w : List ℕ) (s : State) → Agree w s → Valid s → Numbers s → inForm w ≡ true
 passes w s a v n = form-passes w s a (valid-form s v n)

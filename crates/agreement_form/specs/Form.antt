@@ -9,8 +9,8 @@ use lib.ListN.{length}
 use Rattle.images.specs.declared.Dpc.{Dpc}
 use Rattle.model.specs.Lists.{Distinct, member, present}
 use Rattle.model.specs.Table.{find, Rising}
-use Rattle.model.specs.State.{State, Object, mutex, event, timer, Counters}
-use Rattle.model.specs.Waits.{keyOf}
+use Rattle.model.specs.State.{State, Object, Counters}
+use Rattle.model.specs.Waits.{keyOf, onTimer}
 use Rattle.model.specs.Dpcs.{addressOf, dpcAt, phaseAt, isQueued}
 use Rattle.model.specs.Timers.{lifetime}
 use Rattle.model.specs.Valid.{LimitsValid, Sound, Each, DpcPlaced, workAt, activeCount, returningCount, Alone, PolicyValid}
@@ -32,9 +32,7 @@ pub record QueueForm (limit : ℕ) (table : List Dpc) (queue : List ℕ) (c : Co
 
 -- "an inserted timer's DPC, if any, exists"
 abbrev pub Exists : List Dpc → Object → Type 0
-Exists table (mutex m) = Unit
-Exists table (event e) = Unit
-Exists table (timer t) = t .inserted ≡ true → (t .dpc ≡ 0 → ⊥) → present (dpcAt table (t .dpc)) ≡ true
+Exists table = onTimer Unit (λ t. t .inserted ≡ true → (t .dpc ≡ 0 → ⊥) → present (dpcAt table (t .dpc)) ≡ true)
 
 -- timers and DPCs together
 pub record LinkForm (objects : List Object) (table : List Dpc) : Type 0 where

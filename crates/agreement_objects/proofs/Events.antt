@@ -39,7 +39,7 @@ use Rattle.agreement.specs.Matches.{Plainly}
 use Rattle.agreement.proofs.Headers.{objects-few}
 use Rattle.agreement.proofs.Places.{entry-place}
 use Rattle.agreement.proofs.Records.{flag-read}
-use Rattle.agreement.proofs.Lookups.{base-is, object-count-is, object-place, object-row}
+use Rattle.agreement.proofs.Lookups.{base-is, object-count-is, row-kind, object-place, object-row}
 use Rattle.agreement.proofs.Matches.{plainly-unless, step-accepted}
 use Rattle.agreement_wakes.proofs.Waiters.{waits-on-is}
 use Rattle.agreement_objects.proofs.Tests.{collides-is, full-is, event-known}
@@ -70,12 +70,7 @@ nth-event m w base i n e =
 module _ (w : List ℕ) (base : ℕ) (low : base ≤ 1000000) (high : at.headerSize ≤ base) where
   event-at : (i : ℕ) (x : Object) → i ≤ 8192 → Row w (base + 32 * i) (objectRow x) → isEvent w (entryAt base i) ≡ eqb (kindOf x) 1
   unfolding isEvent
-  event-at i x h r = ap (λ (p : ℕ). eqb (getD w (p + at.kind) 0) 1) (entry-place base i low h) ∙ ap (λ (k : ℕ). eqb k 1) (r 1 (kindOf x) (go x))
-    where
-      go : (x : Object) → getD (objectRow x) 1 none ≡ some (kindOf x)
-      go (mutex m) = refl
-      go (event v) = refl
-      go (timer t) = refl
+  event-at i x h r = ap (λ (p : ℕ). eqb (getD w (p + at.kind) 0) 1) (entry-place base i low h) ∙ ap (λ (k : ℕ). eqb k 1) (r 1 (kindOf x) (row-kind x))
 
   -- the records of a list, from record `i` on
   abbrev Rows : ℕ → List Object → Type 0

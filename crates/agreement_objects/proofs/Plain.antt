@@ -9,12 +9,13 @@ use lib.Dec.{eqb}
 use Rattle.objects.specs.declared.Object as stored
 use Rattle.objects.specs.Objects.{entered}
 use Rattle.model.specs.Lists.{present, given}
-use Rattle.model.specs.State.{State, Object, mutex, event, timer}
+use Rattle.model.specs.State.{State, Object}
 use Rattle.model.specs.Waits.{keyOf, kindOf, objectAt, asTimer, timerAt, putObject}
 use Rattle.model.specs.Dpcs.{dpcAt}
 use Rattle.model.specs.Refusal.{collides}
 use Rattle.model.specs.Step.{withTable}
 use Rattle.model.proofs.ListLaws.{not-both}
+use Rattle.model.proofs.ObjectLaws.{on-timer}
 use Rattle.agreement_work.proofs.Holders.{has}
 use Rattle.agreement_work.proofs.Puts.{holder-plain}
 use Rattle.agreement_work.proofs.Same.{agreeing-same}
@@ -31,9 +32,7 @@ no-timer s kind key q = go (present (dpcAt (s .dpcs .table) key)) (objectAt (s .
     go : (b : Bool) (o : Option Object) → cond b true (given o false (λ x. not (eqb (kindOf x) kind))) ≡ false → asTimer o ≡ none
     go true o e = absurd (not-both e)
     go false none e = refl
-    go false (some (mutex m)) e = refl
-    go false (some (event x)) e = refl
-    go false (some (timer t)) e = absurd (not-both (sym (ap not q) ∙ e))
+    go false (some x) e = on-timer (λ o. o ≡ none) x (λ n. refl) (λ t z. absurd (not-both (sym (ap not q) ∙ sym (ap (λ (y : Object). not (eqb (kindOf y) kind)) z) ∙ e)))
 
 pub agree-enter : (w : List ℕ) (s : State) → Agree w s → (x : Object) (o : stored.Object) → length (putObject x (s .dispatcher .objects)) ≤ s .limits .objects
     → ObjectFits x → fiveRow (keyOf x) o ≡ objectRow x → ((b : ℕ) → has b x ≡ false) → timerAt (s .dispatcher .objects) (keyOf x) ≡ none

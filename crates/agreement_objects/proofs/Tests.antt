@@ -15,12 +15,13 @@ use Rattle.objects.specs.Objects.{placeOf, objectFound, dpcFound}
 use Rattle.mutexes.specs.Mutexes.{ownerOf, live}
 use Rattle.model.specs.Lists.{present, given}
 use Rattle.model.specs.State as state
-use Rattle.model.specs.State.{State, Mutex, Object, mutex, event, timer, Status, running, ready, waiting}
+use Rattle.model.specs.State.{State, Mutex, Object, mutex, Status, running, ready, waiting}
 use Rattle.model.specs.Threads.{isThread, isLive, hasExited, statusOf}
 use Rattle.model.specs.Waits.{keyOf, kindOf, objectAt, asMutex, asEvent, asTimer, mutexAt, eventAt, timerAt}
 use Rattle.model.specs.Dpcs.{addressOf, dpcAt}
 use Rattle.model.specs.Refusal.{collides, isFull, isOwned}
 use Rattle.model.proofs.ListLaws.{not-both}
+use Rattle.model.proofs.ObjectLaws.{on-mutex, on-event, on-timer, mutex-found}
 use Rattle.agreement_tables.specs.Tables.{below}
 use Rattle.agreement_tables.proofs.Lookups as tables
 use Rattle.agreement.specs.Records.{statusNumber}
@@ -65,61 +66,55 @@ module _ (w : List ℕ) (s : State) (holder : ℕ → ℕ) (active : ℕ) (a : A
 
   -- ---- an object of a kind
 
-  abbrev Place : ℕ → ℕ → Option Object → ℕ
-  Place kind key o = given o 0 (λ x. cond (eqb (kindOf x) kind) (objectsFrom (s .limits) + 32 * below keyOf key (s .dispatcher .objects)) 0)
+  abbrev place : ℕ → ℕ
+  place key = objectsFrom (s .limits) + 32 * below keyOf key (s .dispatcher .objects)
 
-  some-place : (key : ℕ) → eqb (objectsFrom (s .limits) + 32 * below keyOf key (s .dispatcher .objects)) 0 ≡ false
-  some-place key = ne-eqb (objectsFrom (s .limits) + 32 * below keyOf key (s .dispatcher .objects)) 0 (λ q. omega arith)
+  abbrev Place : ℕ → ℕ → Option Object → ℕ
+  Place kind key o = given o 0 (λ x. cond (eqb (kindOf x) kind) (place key) 0)
+
+  some-place : (key : ℕ) → eqb (place key) 0 ≡ false
+  some-place key = ne-eqb (place key) 0 (λ q. omega arith)
 
   pub mutex-known : (key : ℕ) → eqb (placeOf w 0 key) 0 ≡ not (present (mutexAt (s .dispatcher .objects) key))
   mutex-known key = ap (λ (p : ℕ). eqb p 0) (place-of w s holder active a 0 key) ∙ go (objectAt (s .dispatcher .objects) key)
     where
       go : (o : Option Object) → eqb (Place 0 key o) 0 ≡ not (present (asMutex o))
       go none = refl
-      go (some (mutex m)) = some-place key
-      go (some (event e)) = refl
-      go (some (timer t)) = refl
+      go (some x) = on-mutex (λ o. eqb (Place 0 key (some x)) 0 ≡ not (present o)) x (λ n. ap (λ (b : Bool). eqb (cond b (place key) 0) 0) n) (λ y q. ap (λ (z : Object). eqb (Place 0 key (some z)) 0) q ∙ some-place key)
 
   pub event-known : (key : ℕ) → eqb (placeOf w 1 key) 0 ≡ not (present (eventAt (s .dispatcher .objects) key))
   event-known key = ap (λ (p : ℕ). eqb p 0) (place-of w s holder active a 1 key) ∙ go (objectAt (s .dispatcher .objects) key)
     where
       go : (o : Option Object) → eqb (Place 1 key o) 0 ≡ not (present (asEvent o))
       go none = refl
-      go (some (mutex m)) = refl
-      go (some (event e)) = some-place key
-      go (some (timer t)) = refl
+      go (some x) = on-event (λ o. eqb (Place 1 key (some x)) 0 ≡ not (present o)) x (λ n. ap (λ (b : Bool). eqb (cond b (place key) 0) 0) n) (λ y q. ap (λ (z : Object). eqb (Place 1 key (some z)) 0) q ∙ some-place key)
 
   pub timer-known : (key : ℕ) → eqb (placeOf w 2 key) 0 ≡ not (present (timerAt (s .dispatcher .objects) key))
   timer-known key = ap (λ (p : ℕ). eqb p 0) (place-of w s holder active a 2 key) ∙ go (objectAt (s .dispatcher .objects) key)
     where
       go : (o : Option Object) → eqb (Place 2 key o) 0 ≡ not (present (asTimer o))
       go none = refl
-      go (some (mutex m)) = refl
-      go (some (event e)) = refl
-      go (some (timer t)) = some-place key
+      go (some x) = on-timer (λ o. eqb (Place 2 key (some x)) 0 ≡ not (present o)) x (λ n. ap (λ (b : Bool). eqb (cond b (place key) 0) 0) n) (λ y q. ap (λ (z : Object). eqb (Place 2 key (some z)) 0) q ∙ some-place key)
 
   -- ---- the owner of a mutex, 0 where there is none
 
   pub owner-is : (key : ℕ) → ownerOf w key ≡ given (mutexAt (s .dispatcher .objects) key) 0 (λ (m : Mutex). m .owner)
   unfolding ownerOf
-  owner-is key = go (objectAt (s .dispatcher .objects) key) refl
+  owner-is key = go (mutexAt (s .dispatcher .objects) key) refl
     where
       by : (b : Bool) → eqb (placeOf w 0 key) 0 ≡ b → cond (eqb (placeOf w 0 key) 0) 0 (getD w (placeOf w 0 key + at.owner) 0) ≡ cond b 0 (getD w (placeOf w 0 key + at.owner) 0)
       by b e = ap (λ (c : Bool). cond c 0 (getD w (placeOf w 0 key + at.owner) 0)) e
 
-      known : (o : Option Object) → objectAt (s .dispatcher .objects) key ≡ o → eqb (placeOf w 0 key) 0 ≡ not (present (asMutex o))
-      known o e = mutex-known key ∙ ap (λ (p : Option Object). not (present (asMutex p))) e
+      known : (o : Option Mutex) → mutexAt (s .dispatcher .objects) key ≡ o → eqb (placeOf w 0 key) 0 ≡ not (present o)
+      known o e = mutex-known key ∙ ap (λ (p : Option Mutex). not (present p)) e
 
-      go : (o : Option Object) → objectAt (s .dispatcher .objects) key ≡ o
-          → cond (eqb (placeOf w 0 key) 0) 0 (getD w (placeOf w 0 key + at.owner) 0) ≡ given (mutexAt (s .dispatcher .objects) key) 0 (λ (m : Mutex). m .owner)
-      go none e = by true (known none e) ∙ ap (λ (p : Option Object). given (asMutex p) 0 (λ (m : Mutex). m .owner)) (sym e)
-      go (some (mutex m)) e =
-          by false (known (some (mutex m)) e)
+      go : (o : Option Mutex) → mutexAt (s .dispatcher .objects) key ≡ o → cond (eqb (placeOf w 0 key) 0) 0 (getD w (placeOf w 0 key + at.owner) 0) ≡ given o 0 (λ (m : Mutex). m .owner)
+      go none e = by true (known none e)
+      go (some m) q =
+          let e = mutex-found (objectAt (s .dispatcher .objects) key) m q in
+          by false (known (some m) q)
           ∙ ap (λ (p : ℕ). getD w (p + at.owner) 0) (object-place w s holder active a key (mutex m) e)
           ∙ object-row w s holder active a key (mutex m) e 4 (m .owner) refl
-          ∙ ap (λ (p : Option Object). given (asMutex p) 0 (λ (m : Mutex). m .owner)) (sym e)
-      go (some (event x)) e = by true (known (some (event x)) e) ∙ ap (λ (p : Option Object). given (asMutex p) 0 (λ (m : Mutex). m .owner)) (sym e)
-      go (some (timer x)) e = by true (known (some (timer x)) e) ∙ ap (λ (p : Option Object). given (asMutex p) 0 (λ (m : Mutex). m .owner)) (sym e)
 
   pub owned-is : (key : ℕ) → eqb (ownerOf w key) 0 ≡ not (isOwned (s .dispatcher .objects) key)
   owned-is key = ap (λ (n : ℕ). eqb n 0) (owner-is key) ∙ go (mutexAt (s .dispatcher .objects) key)

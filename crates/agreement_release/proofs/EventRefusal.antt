@@ -2,7 +2,7 @@
 use Prim.Native.Nat.{ℕ, zero, suc, _+_, _*_}
 use mathlib.Core.List.{List}
 use mathlib.Core.Bool.{Bool, true, false, cond, not, _&&_, _||_}
-use mathlib.Core.Path.{_≡_, refl, sym, ap, ap₂, _∙_}
+use mathlib.Core.Path.{_≡_, refl, sym, ap, ap₂, _∙_, subst}
 use native.Mathlib.Omega.{arith}
 use borrow.Author.Tests.{ltb-true, ltb-false, le-leb, lt-leb}
 use lib.Dec.{eqb, leb, ltb}
@@ -12,16 +12,17 @@ use Rattle.timers.specs.Record.{someIn}
 use Rattle.wakes.specs.Wake.{waitsOn}
 use Rattle.words.specs.Layout.{entryAt}
 use Rattle.model.specs.Lists.{any}
-use Rattle.model.specs.State.{State, Event, Object, mutex, event, timer}
-use Rattle.model.specs.Waits.{eventsOf}
+use Rattle.model.specs.State.{State, Event, Object}
+use Rattle.model.specs.Waits.{kindOf, onEvent, eventsOf}
 use Rattle.model.specs.Refusal.{isWaitedOn, eventHeld, eventReleaseRefusal}
+use Rattle.model.proofs.ObjectLaws.{on-event}
 use Rattle.agreement.specs.Row.{Row}
 use Rattle.agreement.specs.Records.{objectRow}
 use Rattle.agreement.specs.Agree.{objectsFrom, Agreeing}
 use Rattle.agreement.proofs.Headers.{objects-few}
-use Rattle.agreement.proofs.Lookups.{base-is, object-count-is}
+use Rattle.agreement.proofs.Lookups.{base-is, object-count-is, row-kind}
 use Rattle.agreement.proofs.Walks.{some-is}
-use Rattle.agreement_release.proofs.Walks.{onEvent, any-event}
+use Rattle.agreement_release.proofs.Walks.{any-event}
 
 -- one order told by the other
 pub leb-not : (a b : ℕ) → leb a b ≡ not (ltb b a)
@@ -59,18 +60,17 @@ module _ (w : List ℕ) (s : State) (holder : ℕ → ℕ) (active : ℕ) (a : A
       k : ℕ
       k = e .key
 
-  held-is : (lo hi span place : ℕ) (x : Object) → Row w place (objectRow x) → isHeld w place lo hi span ≡ onEvent (eventHeld s lo hi span) x
+  held-is : (lo hi span place : ℕ) (x : Object) → Row w place (objectRow x) → isHeld w place lo hi span ≡ onEvent false (eventHeld s lo hi span) x
   unfolding isHeld isEvent
-  held-is lo hi span place (mutex m) r = simp (r 1 0 refl)
-  held-is lo hi span place (timer t) r = simp (r 1 2 refl)
-  held-is lo hi span place (event e) r = simp (r 1 1 refl, r 0 (e .key) refl, key-held-is lo hi span e)
+  held-is lo hi span place x r = on-event (λ b. isHeld w place lo hi span ≡ b) x (λ n. simp (r 1 (kindOf x) (row-kind x), n))
+      (λ e q. let z = subst (λ (y : Object). Row w place (objectRow y)) q r in simp (z 1 1 refl, z 0 (e .key) refl, key-held-is lo hi span e))
 
   any-held-is : (lo hi span : ℕ) → anyHeld w lo hi span ≡ any (eventHeld s lo hi span) (eventsOf (s .dispatcher .objects))
   unfolding anyHeld
   any-held-is lo hi span =
       ap₂ (λ (m b : ℕ). heldIn m w b 0 lo hi span) (object-count-is w s holder active a) (base-is w s holder active a)
       ∙ held-walk (length (s .dispatcher .objects)) w (objectsFrom (s .limits)) 0 lo hi span
-      ∙ some-is (λ place. isHeld w place lo hi span) (onEvent (eventHeld s lo hi span)) (objectsFrom (s .limits)) (omega (arith, a .shape .sizes .limits .threads)) (s .dispatcher .objects) 0
+      ∙ some-is (λ place. isHeld w place lo hi span) (onEvent false (eventHeld s lo hi span)) (objectsFrom (s .limits)) (omega (arith, a .shape .sizes .limits .threads)) (s .dispatcher .objects) 0
       (omega (arith, objects-few w s holder active a))
       (λ t x e. ap (λ (p : ℕ). isHeld w p lo hi span) (let z : objectsFrom (s .limits) + 32 * (0 + t) ≡ objectsFrom (s .limits) + 32 * t = omega arith in z)
       ∙ held-is lo hi span (objectsFrom (s .limits) + 32 * t) x (a .objects t x e))

@@ -2,7 +2,7 @@
 use Prim.Native.Nat.{ℕ, _+_, _*_, _≤_}
 use mathlib.Core.List.{List}
 use mathlib.Core.Bool.{Bool, true, false, cond, not, _&&_}
-use mathlib.Core.Path.{_≡_, refl, ap, _∙_}
+use mathlib.Core.Path.{_≡_, refl, sym, ap, _∙_, subst}
 use native.Mathlib.Omega.{arith}
 use lib.Dec.{eqb, ltb}
 use lib.ListN.{getD, length}
@@ -12,8 +12,8 @@ use Rattle.call_answers.specs.Told.{told}
 use Rattle.event_release.specs.Release.{isEvent, isRetired, retired, releaseRefusal, releaseAnswer, eventsRetired}
 use Rattle.objects.specs.Objects.{objectsBase}
 use Rattle.model.specs.Lists.{keep}
-use Rattle.model.specs.State.{State, Object, mutex, event, timer}
-use Rattle.model.specs.Waits.{keyOf}
+use Rattle.model.specs.State.{State, Object}
+use Rattle.model.specs.Waits.{keyOf, kindOf}
 use Rattle.model.specs.Refusal.{eventReleaseRefusal}
 use Rattle.model.specs.Valid.{Valid}
 use Rattle.model.specs.Reads.{readRefusal, readAnswer}
@@ -23,6 +23,7 @@ use Rattle.model.specs.Step as log
 use Rattle.model.specs.Step.{step, refusal, effect, withTable, isRetiredEvent}
 use Rattle.model.proofs.ListLaws.{not-both, length-keep}
 use Rattle.model.proofs.TableLaws.{rising-keep, each-keep}
+use Rattle.model.proofs.ObjectLaws.{on-event, on-timer}
 use Rattle.agreement_tables.specs.Tables as tables
 use Rattle.agreement_tables.proofs.Holds.{row-local}
 use Rattle.agreement_tables.proofs.Retired.{Goes, length-retired, retired-outside, retired-holds, retired-count}
@@ -34,7 +35,7 @@ use Rattle.agreement.specs.Matches.{Plainly}
 use Rattle.agreement.proofs.Rows.{says-short}
 use Rattle.agreement.proofs.Frames.{object-short}
 use Rattle.agreement.proofs.Headers.{objects-few}
-use Rattle.agreement.proofs.Lookups.{base-is}
+use Rattle.agreement.proofs.Lookups.{base-is, row-kind}
 use Rattle.agreement.proofs.Matches.{plainly-unless}
 use Rattle.agreement_wakes.proofs.Waiters.{waits-on-is}
 use Rattle.agreement_work.proofs.Holders.{has, holder-keep}
@@ -53,9 +54,8 @@ objects-local = row-local tables.Whole objectRow (λ x k n e. let h = says-short
 -- the words of a record tell whether it goes
 goes-is : (w : List ℕ) (lo hi place : ℕ) (x : Object) → Row w place (objectRow x) → Goes (stays lo hi) lo hi w place x
 unfolding isRetired isEvent
-goes-is w lo hi place (mutex m) r = simp (r 1 0 refl)
-goes-is w lo hi place (timer t) r = simp (r 1 2 refl)
-goes-is w lo hi place (event e) r = simp (r 1 1 refl, r 0 (e .key) refl, leb-not lo (e .key), by (ltb (e .key) lo) (ltb (e .key) hi))
+goes-is w lo hi place x r = on-event (λ b. isRetired w place lo hi ≡ not (not b)) x (λ n. simp (r 1 (kindOf x) (row-kind x), n))
+    (λ e q. let z = subst (λ (y : Object). Row w place (objectRow y)) q r in simp (z 1 1 refl, z 0 (e .key) refl, leb-not lo (e .key), by (ltb (e .key) lo) (ltb (e .key) hi)))
   where
     by : (a b : Bool) → cond a false b ≡ not (not (not a && b))
     by true b = refl
@@ -64,9 +64,7 @@ goes-is w lo hi place (event e) r = simp (r 1 1 refl, r 0 (e .key) refl, leb-not
 
 -- no timer goes
 timers-stay : (lo hi b : ℕ) (x : Object) → stays lo hi x ≡ false → has b x ≡ false
-timers-stay lo hi b (mutex m) e = refl
-timers-stay lo hi b (event v) e = refl
-timers-stay lo hi b (timer t) e = absurd (not-both e)
+timers-stay lo hi b x e = on-timer (λ c. c ≡ false) x (λ n. refl) (λ t q. absurd (not-both (sym (ap (stays lo hi) q) ∙ e)))
 
 module _ (w : List ℕ) (s : State) (a : Agree w s) where
   -- the events in a range go

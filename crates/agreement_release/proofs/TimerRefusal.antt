@@ -2,7 +2,7 @@
 use Prim.Native.Nat.{ℕ, _+_, _*_}
 use mathlib.Core.List.{List}
 use mathlib.Core.Bool.{Bool, true, false, cond, not}
-use mathlib.Core.Path.{_≡_, refl, sym, ap, ap₂, _∙_}
+use mathlib.Core.Path.{_≡_, refl, sym, ap, ap₂, _∙_, subst}
 use native.Mathlib.Omega.{arith}
 use lib.Dec.{eqb}
 use Rattle.images.specs.declared.Timer.{Timer}
@@ -14,31 +14,31 @@ use Rattle.timers.specs.Record.{isTimer, isInserted, sizeAt, dpcSizeAt, someIn}
 use Rattle.timers.specs.Release as words
 use Rattle.timers.specs.Release.{timerStands, isTimerHeld, anyTimerHeld, dpcStands, isDpcHeld, anyDpcHeld, releaseRefusal}
 use Rattle.model.specs.Lists.{any}
-use Rattle.model.specs.State.{State, Object, mutex, event, timer}
-use Rattle.model.specs.Waits.{timersOf}
+use Rattle.model.specs.State.{State, Object, timer}
+use Rattle.model.specs.Waits.{kindOf, onTimer, timersOf}
 use Rattle.model.specs.Dpcs.{isBusy}
 use Rattle.model.specs.Timers.{isNamed}
 use Rattle.model.specs.Refusal.{isWaitedOn, isPeriodicOrigin, timerOverlapped, dpcOverlapped, timerHeld, dpcHeld, timerReleaseRefusal}
 use Rattle.model.specs.Valid.{Valid}
+use Rattle.model.proofs.ObjectLaws.{on-timer₂, on-timer}
 use Rattle.agreement.specs.Row.{Row}
 use Rattle.agreement.specs.Records.{flag, objectRow, dpcRow, phaseNumber, holderOf, activeAddress}
 use Rattle.agreement.specs.Agree.{objectsFrom, dpcsFrom, Agree}
 use Rattle.agreement.proofs.Records.{flag-read, architecture-read}
 use Rattle.agreement.proofs.Headers.{objects-few, dpcs-few}
-use Rattle.agreement.proofs.Lookups.{base-is, object-count-is, dpcs-base-is, dpc-count-is}
+use Rattle.agreement.proofs.Lookups.{base-is, object-count-is, row-kind, dpcs-base-is, dpc-count-is}
 use Rattle.agreement_wakes.proofs.Waiters.{waits-on-is}
 use Rattle.agreement_work.proofs.Named.{is-named}
 use Rattle.agreement.proofs.Walks.{some-is}
-use Rattle.agreement_release.proofs.Walks.{onTimer, any-timer}
+use Rattle.agreement_release.proofs.Walks.{any-timer}
 use Rattle.agreement_release.proofs.Origins.{active-origin-is}
 
 -- ---- what stands in the range
 
-pub timer-stands-is : (w : List ℕ) (place address size : ℕ) (x : Object) → Row w place (objectRow x) → timerStands w place address size ≡ onTimer (timerOverlapped address size) x
+pub timer-stands-is : (w : List ℕ) (place address size : ℕ) (x : Object) → Row w place (objectRow x) → timerStands w place address size ≡ onTimer false (timerOverlapped address size) x
 unfolding timerStands isTimer sizeAt
-timer-stands-is w place address size (mutex m) r = simp (r 1 0 refl)
-timer-stands-is w place address size (event e) r = simp (r 1 1 refl)
-timer-stands-is w place address size (timer t) r = simp (r 1 2 refl, r 0 (t .address) refl, r 12 (architectureNumber (t .architecture)) refl, architecture-read)
+timer-stands-is w place address size x r = on-timer (λ b. timerStands w place address size ≡ b) x (λ n. simp (r 1 (kindOf x) (row-kind x), n)) λ t q.
+    let z = subst (λ (y : Object). Row w place (objectRow y)) q r in simp (z 1 2 refl, z 0 (t .address) refl, z 12 (architectureNumber (t .architecture)) refl, architecture-read)
 
 pub dpc-stands-is : (w : List ℕ) (place address size holder : ℕ) (d : Dpc) → Row w place (dpcRow holder d) → dpcStands w place address size ≡ dpcOverlapped address size d
 unfolding dpcStands dpcSizeAt
@@ -65,17 +65,16 @@ module _ (w : List ℕ) (s : State) (a : Agree w s) (v : Valid s) where
         active-origin-is w s holder a (t .address),
       )
 
-  timer-held-is : (place address size : ℕ) (x : Object) → Row w place (objectRow x) → words.timerHeld w place address size ≡ onTimer (timerHeld s address size) x
+  timer-held-is : (place address size : ℕ) (x : Object) → Row w place (objectRow x) → words.timerHeld w place address size ≡ onTimer false (timerHeld s address size) x
   unfolding words.timerHeld timerHeld
-  timer-held-is place address size (mutex m) r = ap (λ (b : Bool). cond b (isTimerHeld w place) false) (timer-stands-is w place address size (mutex m) r)
-  timer-held-is place address size (event e) r = ap (λ (b : Bool). cond b (isTimerHeld w place) false) (timer-stands-is w place address size (event e) r)
-  timer-held-is place address size (timer t) r = ap₂ (λ (b c : Bool). cond b c false) (timer-stands-is w place address size (timer t) r) (is-held place t r)
+  timer-held-is place address size x r = ap (λ (b : Bool). cond b (isTimerHeld w place) false) (timer-stands-is w place address size x r)
+      ∙ on-timer₂ (λ b c. cond b (isTimerHeld w place) false ≡ c) x (λ n. refl) (λ t q. ap (λ (c : Bool). cond (timerOverlapped address size t) c false) (is-held place t (subst (λ (y : Object). Row w place (objectRow y)) q r)))
 
   any-timer-is : (address size : ℕ) → anyTimerHeld w address size ≡ any (timerHeld s address size) (timersOf (s .dispatcher .objects))
   unfolding anyTimerHeld
   any-timer-is address size =
       ap₂ (λ (m b : ℕ). someIn m (λ place. words.timerHeld w place address size) b 0) (object-count-is w s holder active a) (base-is w s holder active a)
-      ∙ some-is (λ place. words.timerHeld w place address size) (onTimer (timerHeld s address size)) (objectsFrom (s .limits)) (omega (arith, a .shape .sizes .limits .threads)) (s .dispatcher .objects) 0
+      ∙ some-is (λ place. words.timerHeld w place address size) (onTimer false (timerHeld s address size)) (objectsFrom (s .limits)) (omega (arith, a .shape .sizes .limits .threads)) (s .dispatcher .objects) 0
       (omega (arith, objects-few w s holder active a))
       (λ t x e. ap (λ (p : ℕ). words.timerHeld w p address size) (let z : objectsFrom (s .limits) + 32 * (0 + t) ≡ objectsFrom (s .limits) + 32 * t = omega arith in z)
       ∙ timer-held-is (objectsFrom (s .limits) + 32 * t) address size x (a .objects t x e))

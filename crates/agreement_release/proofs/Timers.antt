@@ -3,7 +3,7 @@ use Prim.Native.Nat.{ℕ}
 use mathlib.Core.List.{List}
 use mathlib.Core.Bool.{Bool, true, false, cond, not}
 use mathlib.Core.Option.{Option}
-use mathlib.Core.Path.{_≡_, refl, sym, ap, _∙_}
+use mathlib.Core.Path.{_≡_, refl, sym, ap, _∙_, subst}
 use lib.Dec.{eqb}
 use Rattle.answers.specs.declared.Answer.the-variants as answer
 use Rattle.call_answers.specs.Told.{told}
@@ -13,7 +13,7 @@ use Rattle.images.specs.declared.DpcPhase.the-variants.{Idle}
 use Rattle.dpc_table.specs.Table.{closedUp}
 use Rattle.timers.specs.Release.{releaseRefusal, timerRelease, timersMarked, timersClosed, dpcsMarked, timersRetired}
 use Rattle.model.specs.Lists.{keep, any, Mem, given}
-use Rattle.model.specs.State.{State, Object, mutex, event, timer}
+use Rattle.model.specs.State.{State, Object}
 use Rattle.model.specs.Waits.{timersOf}
 use Rattle.model.specs.Dpcs.{addressOf, isActive, isBusy, isQueued}
 use Rattle.model.specs.Timers.{isNamed}
@@ -28,6 +28,7 @@ use Rattle.model.proofs.ListLaws.{not-both, any-false, mem-member}
 use Rattle.model.proofs.TableLaws.{mem-found}
 use Rattle.model.proofs.RowLaws.{passes}
 use Rattle.model.proofs.DpcLaws.{idle-not-busy, phase-found}
+use Rattle.model.proofs.ObjectLaws.{on-timer₂}
 use Rattle.model.proofs.LinkLaws.{timer-mem}
 use Rattle.agreement.specs.Records.{holderOf, activeAddress}
 use Rattle.agreement.specs.Agree.{Agree}
@@ -61,9 +62,8 @@ module _ (s : State) (v : Valid s) (address size : ℕ) (e : timerReleaseRefusal
       by false q r h z = absurd (not-both (sym h))
 
   gone-holds : (b : ℕ) (x : Object) → Mem x (s .dispatcher .objects) → not (isRetiredTimer address size x) ≡ false → has b x ≡ false
-  gone-holds b (mutex m) i z = refl
-  gone-holds b (event m) i z = refl
-  gone-holds b (timer t) i z = idle-holds b t (idle-timer t (timer-mem (s .dispatcher .objects) t i) (by (timerOverlapped address size t) z))
+  gone-holds b x i = on-timer₂ (λ gone held. not gone ≡ false → held ≡ false) x (λ n z. refl)
+      (λ t q z. idle-holds b t (idle-timer t (timer-mem (s .dispatcher .objects) t (subst (λ (y : Object). Mem y (s .dispatcher .objects)) q i)) (by (timerOverlapped address size t) z)))
     where
       by : (p : Bool) → not p ≡ false → p ≡ true
       by true q = refl

@@ -15,7 +15,6 @@ use Rattle.timers.specs.Release.{timerStands, timerMarked, timersMarked, timers
 use Rattle.model.specs.Lists.{keep}
 use Rattle.model.specs.State.{State, Object, mutex, event, timer}
 use Rattle.model.specs.Waits.{keyOf, kindOf}
-use Rattle.model.specs.Refusal.{timerOverlapped}
 use Rattle.model.specs.Step.{withTable, isRetiredTimer}
 use Rattle.model.proofs.ListLaws.{length-keep, mem-keep}
 use Rattle.model.proofs.TableLaws.{rising-keep, each-keep}
@@ -31,7 +30,6 @@ use Rattle.agreement.specs.Agree.{objectsFrom, Objects, Agreeing}
 use Rattle.agreement.proofs.Places.{objects-place}
 use Rattle.agreement.proofs.Headers.{objects-few}
 use Rattle.agreement.proofs.Lookups.{base-is, object-count-is, object-kinds}
-use Rattle.agreement_release.proofs.Walks.{onTimer}
 use Rattle.agreement.proofs.Written.{Elsewhere, sim-objects}
 use Rattle.agreement_release.proofs.Marks.{marked, Marks, Own, marks-all}
 use Rattle.agreement_release.proofs.Stays.{stays-holds, marked-are}
@@ -76,16 +74,11 @@ module _ (w : List ℕ) (s : State) (holder : ℕ → ℕ) (active : ℕ) (a : A
       (marks-all test own base low (length xs) w few long)
 
   tells : tables.Holds (λ v p (x : Object). test v p ≡ not (f x)) w base xs
-  tells i x e = timer-stands-is w (base + 32 * i) address size x (a .objects i x e) ∙ by x
+  tells i x e = timer-stands-is w (base + 32 * i) address size x (a .objects i x e) ∙ twice (isRetiredTimer address size x)
     where
       twice : (b : Bool) → b ≡ not (not b)
       twice true = refl
       twice false = refl
-
-      by : (x : Object) → onTimer (timerOverlapped address size) x ≡ not (not (isRetiredTimer address size x))
-      by (mutex m) = refl
-      by (event v) = refl
-      by (timer t) = twice (timerOverlapped address size t)
 
   -- the row of an object that stays
   abbrev Stay : List ℕ → ℕ → Object → Type 0

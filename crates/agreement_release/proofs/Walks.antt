@@ -6,33 +6,19 @@ use mathlib.Core.Logic.{inl, inr}
 use mathlib.Core.Path.{_≡_, refl, sym, ap, _∙_}
 use Rattle.images.specs.declared.Timer.{Timer}
 use Rattle.model.specs.Lists.{any, keep, firstOf, Mem}
-use Rattle.model.specs.State.{Event, Object, mutex, event, timer}
-use Rattle.model.specs.Waits.{timersOf, eventsOf}
+use Rattle.model.specs.State.{Event, Object}
+use Rattle.model.specs.Waits.{onEvent, onTimer, timersOf, eventsOf}
+use Rattle.model.proofs.ObjectLaws.{on-event₂, on-timer₂}
 
 -- ---- events and timers among the objects
 
--- a test of events, and one of timers; no other object passes it
-abbrev pub onEvent : (Event → Bool) → Object → Bool
-onEvent f (mutex m) = false
-onEvent f (event e) = f e
-onEvent f (timer t) = false
-
-abbrev pub onTimer : (Timer → Bool) → Object → Bool
-onTimer f (mutex m) = false
-onTimer f (event e) = false
-onTimer f (timer t) = f t
-
-pub any-event : (f : Event → Bool) (l : List Object) → any f (eventsOf l) ≡ any (onEvent f) l
+pub any-event : (f : Event → Bool) (l : List Object) → any f (eventsOf l) ≡ any (onEvent false f) l
 any-event f [] = refl
-any-event f (mutex m ∷ l) = any-event f l
-any-event f (event e ∷ l) = ap (λ (b : Bool). cond (f e) true b) (any-event f l)
-any-event f (timer t ∷ l) = any-event f l
+any-event f (x ∷ l) = on-event₂ (λ es b. any f es ≡ cond b true (any (onEvent false f) l)) x (λ n. any-event f l) (λ e q. ap (λ (b : Bool). cond (f e) true b) (any-event f l))
 
-pub any-timer : (f : Timer → Bool) (l : List Object) → any f (timersOf l) ≡ any (onTimer f) l
+pub any-timer : (f : Timer → Bool) (l : List Object) → any f (timersOf l) ≡ any (onTimer false f) l
 any-timer f [] = refl
-any-timer f (mutex m ∷ l) = any-timer f l
-any-timer f (event e ∷ l) = any-timer f l
-any-timer f (timer t ∷ l) = ap (λ (b : Bool). cond (f t) true b) (any-timer f l)
+any-timer f (x ∷ l) = on-timer₂ (λ ts b. any f ts ≡ cond b true (any (onTimer false f) l)) x (λ n. any-timer f l) (λ t q. ap (λ (b : Bool). cond (f t) true b) (any-timer f l))
 
 -- ---- the first that passes a test is the first of those that stay, where those that go do not pass it
 

@@ -19,12 +19,13 @@ use Rattle.dispatcher.specs.Dispatch.{sooner, soonest}
 use Rattle.dispatcher.specs.TimerDue.{isAwaited, timerCounts, dueWith, soonestTimerIn, soonestTimer, nextTime}
 use Rattle.images.specs.declared.Timer.{Timer}
 use Rattle.model.specs.Lists.{Mem, member, isEmpty, keep, first, nth, given}
-use Rattle.model.specs.State.{State, Dispatcher, Thread, Object, mutex, event, timer}
+use Rattle.model.specs.State.{State, Dispatcher, Thread, Object}
 use Rattle.model.specs.Threads.{threadAt, isWaiting, numbersOf, waitingNumbers}
-use Rattle.model.specs.Waits.{timersOf, waitsOn}
+use Rattle.model.specs.Waits.{kindOf, timersOf, waitsOn}
 use Rattle.model.specs.Step.{deadlinesOf, duesOf, counts, smallest}
 use Rattle.model.proofs.ListLaws.{not-both, mem-member, mem-append, append-mem-left, append-mem-right}
 use Rattle.model.proofs.TableLaws.{none-some}
+use Rattle.model.proofs.ObjectLaws.{on-timer}
 use Rattle.agreement_tables.proofs.Lists.{nth-in}
 use Rattle.agreement_chains.proofs.Frames.{first-is}
 use Rattle.agreement.specs.Row.{Row}
@@ -32,7 +33,7 @@ use Rattle.agreement.specs.Records.{flag, timerRow, objectRow}
 use Rattle.agreement.specs.Agree.{objectsFrom, Agreeing}
 use Rattle.agreement.proofs.Places.{entry-place}
 use Rattle.agreement.proofs.Headers.{objects-few}
-use Rattle.agreement.proofs.Lookups.{base-is, object-count-is}
+use Rattle.agreement.proofs.Lookups.{base-is, object-count-is, row-kind}
 use Rattle.agreement_wakes.proofs.Waiters.{waits-on-is}
 use Rattle.agreement_threads.proofs.Least.{Least, dueOf, least-on, least-same, least-smallest, least-perhaps, Among, among-mem, least-step, least-stop}
 use Rattle.agreement_threads.proofs.Times.{countedDue, due-among, among-due, deadlineAt, least-deadline, waiter-thread, thread-waiter}
@@ -93,16 +94,15 @@ module _ (w : List ℕ) (s : State) (holder : ℕ → ℕ) (active : ℕ) (a : A
 
   looked : (p : ℕ) (o : Object) → isEmpty (waitingNumbers (s .dispatcher)) ≡ false → Row w p (objectRow o) → (e : Due) → dueWith w e p ≡ given (countedDue (s .dispatcher) o) e (λ t. sooner e 1 t)
   unfolding dueWith timerCounts
-  looked p (mutex m) one r e = ap (λ (n : ℕ). cond (cond (eqb n 2) (cond (eqb (getD w (p + at.inserted) 0) 0) false (cond (eqb (getD w (p + at.timerDpc) 0) 0) (isAwaited w p) true)) false) (sooner e 1 (getD w (p + at.due) 0)) e) (r 1 0 refl)
-  looked p (event m) one r e = ap (λ (n : ℕ). cond (cond (eqb n 2) (cond (eqb (getD w (p + at.inserted) 0) 0) false (cond (eqb (getD w (p + at.timerDpc) 0) 0) (isAwaited w p) true)) false) (sooner e 1 (getD w (p + at.due) 0)) e) (r 1 1 refl)
-  looked p (timer t) one r e =
-      ap (λ (b : Bool). cond b (sooner e 1 (getD w (p + at.due) 0)) e) (timer-counts p t one r)
-      ∙ ap (λ (n : ℕ). cond (counts d t) (sooner e 1 n) e) (r 6 (t .due) refl)
-      ∙ either (counts d t)
+  looked p o one r e = on-timer (λ due. dueWith w e p ≡ given due e (λ t. sooner e 1 t)) o (λ n. simp (r 1 (kindOf o) (row-kind o), n)) λ t q.
+      let z = subst (λ (y : Object). Row w p (objectRow y)) q r in
+      ap (λ (b : Bool). cond b (sooner e 1 (getD w (p + at.due) 0)) e) (timer-counts p t one z)
+      ∙ ap (λ (n : ℕ). cond (counts d t) (sooner e 1 n) e) (z 6 (t .due) refl)
+      ∙ either t (counts d t)
     where
-      either : (b : Bool) → cond b (sooner e 1 (t .due)) e ≡ given (cond b (some (t .due)) none) e (λ t. sooner e 1 t)
-      either true = refl
-      either false = refl
+      either : (t : Timer) (b : Bool) → cond b (sooner e 1 (t .due)) e ≡ given (cond b (some (t .due)) none) e (λ t. sooner e 1 t)
+      either t true = refl
+      either t false = refl
 
   -- ---- the walk over the table
 
@@ -142,9 +142,7 @@ module _ (w : List ℕ) (s : State) (holder : ℕ → ℕ) (active : ℕ) (a : A
   none-counts empty x m = let r = among-mem (countedDue d) (s .dispatcher .objects) x m in go (r .0) (r .2)
     where
       go : (o : Object) → countedDue (s .dispatcher) o ≡ some x → ⊥
-      go (mutex o) e = none-some x e
-      go (event o) e = none-some x e
-      go (timer t) e = none-some x (sym (ap (λ (b : Bool). cond (cond b false (cond (t .inserted) (cond (eqb (t .dpc) 0) (cond (t .signaled) false (waitsOn d (record { kind = 2; key = t .address }))) true) false)) (some (t .due)) none) empty) ∙ e)
+      go o = on-timer (λ due. due ≡ some x → ⊥) o (λ n. none-some x) λ t q e. none-some x (sym (ap (λ (b : Bool). cond (cond b false (cond (t .inserted) (cond (eqb (t .dpc) 0) (cond (t .signaled) false (waitsOn d (record { kind = 2; key = t .address }))) true) false)) (some (t .due)) none) empty) ∙ e)
 
   next-least : Least Times (dueOf (nextTime w))
   unfolding nextTime

@@ -3,7 +3,7 @@ use Prim.Native.Nat.{ℕ, zero, suc, _+_, _≤_}
 use mathlib.Core.List.{List, [], _∷_}
 use mathlib.Core.Bool.{Bool, true, false, cond}
 use mathlib.Core.Option.{Option, none, some}
-use mathlib.Core.Logic.{_⊎_, inl, inr}
+use mathlib.Core.Logic.{_⊎_, inl, inr, ⊎-elim}
 use mathlib.Core.Path.{_≡_, refl, sym, ap, _∙_, subst}
 use native.Mathlib.Omega.{arith}
 use borrow.Author.Tests.{ne-eqb}
@@ -13,13 +13,15 @@ use Rattle.chains.specs.Chain.{nextOf}
 use Rattle.chains.specs.Ready.{waitersChain}
 use Rattle.dispatcher.specs.declared.dispatch.Due.{Due}
 use Rattle.dispatcher.specs.Dispatch.{sooner, dueAfter, soonestIn, soonest, noDue}
+use Rattle.images.specs.declared.Timer.{Timer}
 use Rattle.model.specs.Lists.{Mem, member, keep, given}
-use Rattle.model.specs.State.{State, Dispatcher, Thread, Status, running, ready, waiting, exited, Object, mutex, event, timer}
+use Rattle.model.specs.State.{State, Dispatcher, Thread, Status, running, ready, waiting, exited, Object, timer}
 use Rattle.model.specs.Threads.{threadAt, statusOf, isWaiting, waitOf}
-use Rattle.model.specs.Waits.{timersOf}
+use Rattle.model.specs.Waits.{onTimer, timersOf}
 use Rattle.model.specs.Step.{deadlinesOf, duesOf, counts}
 use Rattle.model.proofs.ListLaws.{not-both, mem-member, member-mem}
 use Rattle.model.proofs.TableLaws.{some-same, none-some}
+use Rattle.model.proofs.ObjectLaws.{on-timer₂}
 use Rattle.agreement_chains.specs.Chains.{along}
 use Rattle.agreement_chains.proofs.Walks.{along-is}
 use Rattle.agreement.specs.Records.{timed}
@@ -35,9 +37,7 @@ threadDeadline t = waitOf (t .status) .deadline
 
 -- the due of a timer that counts
 abbrev pub countedDue : Dispatcher → Object → Option ℕ
-countedDue d (mutex m) = none
-countedDue d (event e) = none
-countedDue d (timer t) = cond (counts d t) (some (t .due)) none
+countedDue d = onTimer none (λ t. cond (counts d t) (some (t .due)) none)
 
 pub deadline-among : (l : List Thread) (x : ℕ) → Mem x (deadlinesOf l) → Among threadDeadline l x
 deadline-among [] x m = m
@@ -59,31 +59,27 @@ among-deadline (t ∷ ts) x m = go (threadDeadline t) refl (among-deadline ts x)
     go (some y) e ih (inr m) = inr (ih m)
 
 pub due-among : (d : Dispatcher) (l : List Object) (x : ℕ) → Mem x (duesOf (keep (counts d) (timersOf l))) → Among (countedDue d) l x
-due-among d [] x m = m
-due-among d (mutex o ∷ l) x m = inr (due-among d l x m)
-due-among d (event o ∷ l) x m = inr (due-among d l x m)
-due-among d (timer t ∷ l) x m = go (counts d t) refl (due-among d l x) m
+due-among d [] x = λ m. m
+due-among d (o ∷ l) x = on-timer₂ (λ ts due. Mem x (duesOf (keep (counts d) ts)) → (due ≡ some x) ⊎ Among (countedDue d) l x) o (λ n m. inr (due-among d l x m))
+    (λ t q. go t (counts d t) refl (due-among d l x))
   where
-    go : (b : Bool) → counts d t ≡ b → (Mem x (duesOf (keep (counts d) (timersOf l))) → Among (countedDue d) l x)
+    go : (t : Timer) (b : Bool) → counts d t ≡ b → (Mem x (duesOf (keep (counts d) (timersOf l))) → Among (countedDue d) l x)
         → Mem x (duesOf (cond b (t ∷ keep (counts d) (timersOf l)) (keep (counts d) (timersOf l)))) → Among (countedDue d) (timer t ∷ l) x
-    go true e ih (inl q) = inl (ap (λ (b : Bool). cond b (some (t .due)) none) e ∙ ap some (sym q))
-    go true e ih (inr m) = inr (ih m)
-    go false e ih m = inr (ih m)
+    go t true e ih (inl q) = inl (ap (λ (b : Bool). cond b (some (t .due)) none) e ∙ ap some (sym q))
+    go t true e ih (inr m) = inr (ih m)
+    go t false e ih m = inr (ih m)
 
 pub among-due : (d : Dispatcher) (l : List Object) (x : ℕ) → Among (countedDue d) l x → Mem x (duesOf (keep (counts d) (timersOf l)))
-among-due d [] x m = m
-among-due d (mutex o ∷ l) x (inl e) = absurd (none-some x e)
-among-due d (mutex o ∷ l) x (inr m) = among-due d l x m
-among-due d (event o ∷ l) x (inl e) = absurd (none-some x e)
-among-due d (event o ∷ l) x (inr m) = among-due d l x m
-among-due d (timer t ∷ l) x m = go (counts d t) refl (among-due d l x) m
+among-due d [] x = λ m. m
+among-due d (o ∷ l) x = on-timer₂ (λ ts due. (due ≡ some x) ⊎ Among (countedDue d) l x → Mem x (duesOf (keep (counts d) ts))) o
+    (λ n. ⊎-elim (λ e. absurd (none-some x e)) (λ m. among-due d l x m)) (λ t q. go t (counts d t) refl (among-due d l x))
   where
-    go : (b : Bool) → counts d t ≡ b → (Among (countedDue d) l x → Mem x (duesOf (keep (counts d) (timersOf l))))
+    go : (t : Timer) (b : Bool) → counts d t ≡ b → (Among (countedDue d) l x → Mem x (duesOf (keep (counts d) (timersOf l))))
         → Among (countedDue d) (timer t ∷ l) x → Mem x (duesOf (cond b (t ∷ keep (counts d) (timersOf l)) (keep (counts d) (timersOf l))))
-    go true e ih (inl q) = inl (sym (some-same (t .due) x (sym (ap (λ (b : Bool). cond b (some (t .due)) none) e) ∙ q)))
-    go true e ih (inr m) = inr (ih m)
-    go false e ih (inl q) = absurd (none-some x (sym (ap (λ (b : Bool). cond b (some (t .due)) none) e) ∙ q))
-    go false e ih (inr m) = ih m
+    go t true e ih (inl q) = inl (sym (some-same (t .due) x (sym (ap (λ (b : Bool). cond b (some (t .due)) none) e) ∙ q)))
+    go t true e ih (inr m) = inr (ih m)
+    go t false e ih (inl q) = absurd (none-some x (sym (ap (λ (b : Bool). cond b (some (t .due)) none) e) ∙ q))
+    go t false e ih (inr m) = ih m
 
 -- ---- threads by number
 

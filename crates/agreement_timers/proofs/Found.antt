@@ -16,10 +16,11 @@ use Rattle.images.specs.declared.DpcPhase.the-variants.{Idle, Queued, Running, 
 use Rattle.objects.specs.Objects.{placeOf, dpcFound}
 use Rattle.timers.specs.Record as words
 use Rattle.model.specs.Lists.{present, given}
-use Rattle.model.specs.State.{State, Object, mutex, event, timer}
+use Rattle.model.specs.State.{State, Object, timer}
 use Rattle.model.specs.Waits.{keyOf, kindOf, objectAt, asTimer, timerAt}
 use Rattle.model.specs.Dpcs.{addressOf, dpcAt, phaseAt, isBusy}
-use Rattle.model.proofs.TableLaws.{some-same, none-some, found}
+use Rattle.model.proofs.TableLaws.{none-some, found}
+use Rattle.model.proofs.ObjectLaws.{on-timer, timer-found}
 use Rattle.agreement_tables.specs.Tables.{below}
 use Rattle.agreement_tables.proofs.Lookups as tables
 use Rattle.agreement.specs.Records.{flag, timerRow, phaseNumber}
@@ -29,13 +30,7 @@ use Rattle.agreement.proofs.Lookups.{dpcs-base-is, dpc-keys, place-of, object-p
 
 -- the object of a timer that is found
 pub timer-object : (l : List Object) (k : ℕ) (t : Timer) → timerAt l k ≡ some t → objectAt l k ≡ some (timer t)
-timer-object l k t e = go (objectAt l k) e
-  where
-    go : (o : Option Object) → asTimer o ≡ some t → o ≡ some (timer t)
-    go none q = absurd (none-some t q)
-    go (some (mutex m)) q = absurd (none-some t q)
-    go (some (event v)) q = absurd (none-some t q)
-    go (some (timer u)) q = ap (λ (v : Timer). some (timer v)) (some-same u t q)
+timer-object l k t e = timer-found (objectAt l k) t e
 
 phase-busy : (p : DpcPhase) → not (eqb (phaseNumber p) 0) ≡ isBusy p
 phase-busy Idle = refl
@@ -90,10 +85,9 @@ module _ (w : List ℕ) (s : State) (holder : ℕ → ℕ) (active : ℕ) (a : A
   timer-missing k e = place-of w s holder active a 2 k ∙ go (objectAt (s .dispatcher .objects) k) e
     where
       go : (o : Option Object) → asTimer o ≡ none → given o 0 (λ x. cond (eqb (kindOf x) 2) (objectsFrom (s .limits) + 32 * below keyOf k (s .dispatcher .objects)) 0) ≡ 0
-      go none q = refl
-      go (some (mutex m)) q = refl
-      go (some (event v)) q = refl
-      go (some (timer t)) q = absurd (none-some t (sym q))
+      go none = λ q. refl
+      go (some x) = on-timer (λ o. o ≡ none → cond (eqb (kindOf x) 2) (objectsFrom (s .limits) + 32 * below keyOf k (s .dispatcher .objects)) 0 ≡ 0) x
+          (λ n q. ap (λ (b : Bool). cond b (objectsFrom (s .limits) + 32 * below keyOf k (s .dispatcher .objects)) 0) n) (λ t e q. absurd (none-some t (sym q)))
 
   module _ (k : ℕ) (t : Timer) (e : objectAt (s .dispatcher .objects) k ≡ some (timer t)) where
     pub timer-place : placeOf w 2 k ≡ objectsFrom (s .limits) + 32 * below keyOf k (s .dispatcher .objects)

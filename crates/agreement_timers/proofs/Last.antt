@@ -19,6 +19,7 @@ use Rattle.model.specs.State.{Object, mutex, event, timer}
 use Rattle.model.specs.Waits.{keyOf, kindOf, asTimer, timersOf}
 use Rattle.model.specs.Dpcs.{addressOf}
 use Rattle.model.specs.Reads.{lastTimerBelow, lastDpcBelow}
+use Rattle.model.proofs.ObjectLaws.{on-timer₂, on-timer}
 use Rattle.agreement_tables.specs.Tables.{below}
 use Rattle.agreement_tables.proofs.Lists.{nth-some, below-le}
 use Rattle.agreement.specs.Row.{Row}
@@ -36,10 +37,8 @@ lastOf (suc n) (x ∷ l) = given (lastOf n l) (asTimer (some x)) some
 -- none begins before the end where all begin after it
 above-end : (end k : ℕ) → end ≤ k → (l : List Object) → Above keyOf k l → lastTimerBelow end (timersOf l) ≡ none
 above-end end k le [] h = refl
-above-end end k le (mutex m ∷ l) h = above-end end k le l (h .1)
-above-end end k le (event v ∷ l) h = above-end end k le l (h .1)
-above-end end k le (timer t ∷ l) h =
-    ap (λ (b : Bool). cond b (given (lastTimerBelow end (timersOf l)) (some t) some) none) (le-ltb (t .address) end (omega (arith, h .0)))
+above-end end k le (x ∷ l) h = on-timer (λ ts. lastTimerBelow end ts ≡ none) x (λ n. above-end end k le l (h .1))
+    (λ t q. ap (λ (b : Bool). cond b (given (lastTimerBelow end (timersOf l)) (some t) some) none) (le-ltb (t .address) end (omega (arith, h .0, ap keyOf q))))
 
 whole : (o : Option Timer) → given o none some ≡ o
 whole none = refl
@@ -47,24 +46,14 @@ whole (some t) = refl
 
 pub last-timer : (end : ℕ) (l : List Object) → Rising keyOf l → lastTimerBelow end (timersOf l) ≡ lastOf (below keyOf end l) l
 last-timer end [] r = refl
-last-timer end (mutex m ∷ l) r = go (ltb (m .key) end) refl (last-timer end l (r .1))
+last-timer end (x ∷ l) r = go (ltb (keyOf x) end) refl (last-timer end l (r .1))
   where
-    go : (b : Bool) → ltb (m .key) end ≡ b → lastTimerBelow end (timersOf l) ≡ lastOf (below keyOf end l) l
-        → lastTimerBelow end (timersOf l) ≡ lastOf (cond b (suc (below keyOf end l)) 0) (mutex m ∷ l)
-    go true e h = h ∙ sym (whole (lastOf (below keyOf end l) l))
-    go false e h = above-end end (m .key) (ltb-false (m .key) end e) l (r .0)
-last-timer end (event v ∷ l) r = go (ltb (v .key) end) refl (last-timer end l (r .1))
-  where
-    go : (b : Bool) → ltb (v .key) end ≡ b → lastTimerBelow end (timersOf l) ≡ lastOf (below keyOf end l) l
-        → lastTimerBelow end (timersOf l) ≡ lastOf (cond b (suc (below keyOf end l)) 0) (event v ∷ l)
-    go true e h = h ∙ sym (whole (lastOf (below keyOf end l) l))
-    go false e h = above-end end (v .key) (ltb-false (v .key) end e) l (r .0)
-last-timer end (timer t ∷ l) r = go (ltb (t .address) end) (last-timer end l (r .1))
-  where
-    go : (b : Bool) → lastTimerBelow end (timersOf l) ≡ lastOf (below keyOf end l) l
-        → cond b (given (lastTimerBelow end (timersOf l)) (some t) some) none ≡ lastOf (cond b (suc (below keyOf end l)) 0) (timer t ∷ l)
-    go true h = ap (λ (o : Option Timer). given o (some t) some) h
-    go false h = refl
+    go : (b : Bool) → ltb (keyOf x) end ≡ b → lastTimerBelow end (timersOf l) ≡ lastOf (below keyOf end l) l
+        → lastTimerBelow end (timersOf (x ∷ l)) ≡ lastOf (cond b (suc (below keyOf end l)) 0) (x ∷ l)
+    go true e h = on-timer₂ (λ ts o. lastTimerBelow end ts ≡ given (lastOf (below keyOf end l) l) o some) x (λ n. h ∙ sym (whole (lastOf (below keyOf end l) l)))
+        (λ t q. ap (λ (b : Bool). cond b (given (lastTimerBelow end (timersOf l)) (some t) some) none) (sym (ap (λ (y : Object). ltb (keyOf y) end) q) ∙ e) ∙ ap (λ (o : Option Timer). given o (some t) some) h)
+    go false e h = let le = ltb-false (keyOf x) end e in on-timer (λ ts. lastTimerBelow end ts ≡ none) x (λ n. above-end end (keyOf x) le l (r .0))
+        (λ t q. ap (λ (b : Bool). cond b (given (lastTimerBelow end (timersOf l)) (some t) some) none) (le-ltb (t .address) end (omega (arith, le, ap keyOf q))))
 
 -- the next object is a timer, which is the last then, or it is none
 last-next : (n : ℕ) (l : List Object) → n < length l → lastOf (suc n) l ≡ given (asTimer (nth l n)) (lastOf n l) some

@@ -19,10 +19,12 @@ use Rattle.model.specs.Lists.{nth, firstOf, given}
 use Rattle.model.specs.State.{Object, mutex, event, timer}
 use Rattle.model.specs.Waits.{kindOf, timersOf}
 use Rattle.model.specs.Answer.{None, TimerIs}
+use Rattle.model.proofs.ObjectLaws.{on-timer}
 use Rattle.agreement.specs.Row.{Row}
 use Rattle.agreement.specs.Records.{timerRow, objectRow}
 use Rattle.agreement.proofs.Places.{entry-place}
 use Rattle.agreement.proofs.Records.{timer-read}
+use Rattle.agreement.proofs.Lookups.{row-kind}
 
 -- ---- the place of a timer, or 0
 
@@ -57,9 +59,7 @@ module _ (w : List ℕ) (base : ℕ) (low : base ≤ 1000000) (one : 1 ≤ base)
   -- word 1 is the kind
   pub timer-here : (place : ℕ) (y : Object) → Row w place (objectRow y) → isTimer w place ≡ eqb (kindOf y) 2
   unfolding isTimer
-  timer-here place (mutex m) r = ap (λ (k : ℕ). eqb k 2) (r 1 0 refl)
-  timer-here place (event v) r = ap (λ (k : ℕ). eqb k 2) (r 1 1 refl)
-  timer-here place (timer t) r = ap (λ (k : ℕ). eqb k 2) (r 1 2 refl)
+  timer-here place y r = ap (λ (k : ℕ). eqb k 2) (r 1 (kindOf y) (row-kind y))
 
   -- the timer that has `n` timers before it
   pub nth-stands : (ys : List Object) (i n : ℕ) → i + length ys ≤ 8192 → Rows w base i ys → Stands w (nthIn (length ys) w base i n) (nth (timersOf ys) n)
@@ -90,20 +90,20 @@ module _ (w : List ℕ) (base : ℕ) (low : base ≤ 1000000) (one : 1 ≤ base)
     pub first-stands : (ys : List Object) (i : ℕ) → i + length ys ≤ 8192 → Rows w base i ys → Stands w (firstIn (length ys) test base i) (firstOf f (timersOf ys))
     unfolding firstIn
     first-stands [] i few r = refl
-    first-stands (mutex m ∷ ys) i few r =
-        subst (λ (b : Bool). Stands w (cond b (entryAt base i) (firstIn (length ys) test base (i + 1))) (firstOf f (timersOf ys)))
-        (sym (others (entryAt base i) (mutex m) (rows-head i (mutex m) ys (omega arith) r) refl))
-        (first-stands ys (i + 1) (omega arith) (rows-tail i (mutex m) ys r))
-    first-stands (event v ∷ ys) i few r =
-        subst (λ (b : Bool). Stands w (cond b (entryAt base i) (firstIn (length ys) test base (i + 1))) (firstOf f (timersOf ys)))
-        (sym (others (entryAt base i) (event v) (rows-head i (event v) ys (omega arith) r) refl))
-        (first-stands ys (i + 1) (omega arith) (rows-tail i (event v) ys r))
-    first-stands (timer t ∷ ys) i few r =
-        subst (λ (b : Bool). Stands w (cond b (entryAt base i) (firstIn (length ys) test base (i + 1))) (cond (f t) (some t) (firstOf f (timersOf ys))))
-        (sym (same (entryAt base i) t (rows-head i (timer t) ys (omega arith) r)))
-        (go (f t) (first-stands ys (i + 1) (omega arith) (rows-tail i (timer t) ys r)))
+    first-stands (x ∷ ys) i few r = at-head (first-stands ys (i + 1) (omega arith) (rows-tail i x ys r))
       where
-        go : (b : Bool) → Stands w (firstIn (length ys) test base (i + 1)) (firstOf f (timersOf ys))
-            → Stands w (cond b (entryAt base i) (firstIn (length ys) test base (i + 1))) (cond b (some t) (firstOf f (timersOf ys)))
-        go true h = (entry-some i (omega arith), rows-head i (timer t) ys (omega arith) r)
-        go false h = h
+        rest : ℕ
+        rest = firstIn (length ys) test base (i + 1)
+
+        row : Row w (entryAt base i) (objectRow x)
+        row = rows-head i x ys (omega arith) r
+
+        go : (t : Timer) → Row w (entryAt base i) (timerRow t) → (b : Bool) → Stands w rest (firstOf f (timersOf ys)) → Stands w (cond b (entryAt base i) rest) (cond b (some t) (firstOf f (timersOf ys)))
+        go t z true h = (entry-some i (omega arith), z)
+        go t z false h = h
+
+        at-head : Stands w rest (firstOf f (timersOf ys)) → Stands w (cond (test (entryAt base i)) (entryAt base i) rest) (firstOf f (timersOf (x ∷ ys)))
+        at-head h = on-timer (λ ts. Stands w (cond (test (entryAt base i)) (entryAt base i) rest) (firstOf f ts)) x
+            (λ n. subst (λ (b : Bool). Stands w (cond b (entryAt base i) rest) (firstOf f (timersOf ys))) (sym (others (entryAt base i) x row n)) h)
+            (λ t q. let z = subst (λ (y : Object). Row w (entryAt base i) (objectRow y)) q row in
+            subst (λ (b : Bool). Stands w (cond b (entryAt base i) rest) (cond (f t) (some t) (firstOf f (timersOf ys)))) (sym (same (entryAt base i) t z)) (go t z (f t) h))

@@ -15,15 +15,16 @@ use Rattle.answers.specs.Outcome.{outcome}
 use Rattle.answers.specs.declared.Answer.the-variants as answer
 use Rattle.events.specs.Events.{signaledAt, wasSet, wasReset}
 use Rattle.model.specs.Lists.{given, present}
-use Rattle.model.specs.State.{State, Event, Object, mutex, event, timer}
+use Rattle.model.specs.State.{State, Event, Object, event}
 use Rattle.model.specs.Threads.{withObjects}
-use Rattle.model.specs.Waits.{keyOf, objectAt, asEvent, ofKind, putObject, signaledAs, wake}
+use Rattle.model.specs.Waits.{keyOf, objectAt, eventAt, putObject, signaledAs, wake}
 use Rattle.model.specs.Valid.{Valid}
 use Rattle.model.specs.Refusal.{signalRefusal}
 use Rattle.model.specs.Answer.{gives, Done, Flag}
 use Rattle.model.specs.Call as call
 use Rattle.model.specs.Step.{step, refusal, effect, withTable, withDispatcher, eventSet, eventReset}
-use Rattle.model.proofs.TableLaws.{none-some, found}
+use Rattle.model.proofs.TableLaws.{found}
+use Rattle.model.proofs.ObjectLaws.{event-found, event-absent}
 use Rattle.agreement.specs.Records.{flag, holderOf, activeAddress}
 use Rattle.agreement.specs.Agree.{Agreeing, Agree}
 use Rattle.agreement.specs.Matches.{Plainly}
@@ -47,14 +48,8 @@ module _ (w : List ℕ) (s : State) (a : Agree w s) (key : ℕ) where
 
   -- ---- no event has the key
 
-  absent : (o : Option Object) → objectAt (s .dispatcher .objects) key ≡ o → asEvent o ≡ none → placeOf w 1 key ≡ 0
-  absent o e n = place-none w s held active a (record { kind = 1; key = key }) (ap (ofKind 1) e ∙ go o n)
-    where
-      go : (o : Option Object) → asEvent o ≡ none → ofKind 1 o ≡ none
-      go none q = refl
-      go (some (mutex m)) q = refl
-      go (some (event v)) q = absurd (none-some v (sym q))
-      go (some (timer t)) q = refl
+  absent : eventAt (s .dispatcher .objects) key ≡ none → placeOf w 1 key ≡ 0
+  absent n = place-none w s held active a (record { kind = 1; key = key }) (event-absent (objectAt l key) n)
 
   -- ---- an event has it
 
@@ -84,26 +79,22 @@ module _ (w : List ℕ) (s : State) (a : Agree w s) (key : ℕ) where
 
   set-agrees : Valid s → Plainly (wasSet w key) (step (call.SetEvent key) s)
   unfolding wasSet refusal signalRefusal effect eventSet
-  set-agrees valid = go (objectAt l key) refl
+  set-agrees valid = go (eventAt l key) refl
     where
       Set : code.Outcome → Type 0
       Set o = Plainly o (step (call.SetEvent key) s)
 
-      refused : (o : Option Object) → objectAt (s .dispatcher .objects) key ≡ o → asEvent o ≡ none → Plainly (wasSet w key) (step (call.SetEvent key) s)
-      refused o e n =
-          subst (λ (p : ℕ). Set (cond (eqb p 0) (outcome (answer.Refused 2) w) (outcome (answer.Flag (signaledAt w p)) (awake (set w (p + at.signaled) 1))))) (sym (absent o e n))
-          (plainly-refused w s a (call.SetEvent key) 2 (ap (λ (x : Option Event). cond (present x) 0 2) (ap asEvent e ∙ n)) (λ z. omega arith))
-
-      go : (o : Option Object) → objectAt (s .dispatcher .objects) key ≡ o → Plainly (wasSet w key) (step (call.SetEvent key) s)
-      go none e = refused none e refl
-      go (some (mutex m)) e = refused (some (mutex m)) e refl
-      go (some (timer t)) e = refused (some (timer t)) e refl
-      go (some (event v)) e =
+      go : (o : Option Event) → eventAt (s .dispatcher .objects) key ≡ o → Plainly (wasSet w key) (step (call.SetEvent key) s)
+      go none n =
+          subst (λ (p : ℕ). Set (cond (eqb p 0) (outcome (answer.Refused 2) w) (outcome (answer.Flag (signaledAt w p)) (awake (set w (p + at.signaled) 1))))) (sym (absent n))
+          (plainly-refused w s a (call.SetEvent key) 2 (ap (λ (x : Option Event). cond (present x) 0 2) n) (λ z. omega arith))
+      go (some v) n =
+          let e = event-found (objectAt l key) v n in
           subst (λ (b : Bool). Set (cond b (outcome (answer.Refused 2) w) (outcome (answer.Flag (signaledAt w (placeOf w 1 key))) (awake (set w (placeOf w 1 key + at.signaled) 1))))) (sym (there v e))
           (subst (λ (b : Bool). Set (outcome (answer.Flag b) (awake (set w (placeOf w 1 key + at.signaled) 1)))) (sym (was v e))
-          (plainly-accepted s (call.SetEvent key) (outcome (answer.Flag (v .signaled)) (awake (set w (placeOf w 1 key + at.signaled) 1))) (ap (λ (x : Option Event). cond (present x) 0 2) (ap asEvent e))
+          (plainly-accepted s (call.SetEvent key) (outcome (answer.Flag (v .signaled)) (awake (set w (placeOf w 1 key + at.signaled) 1))) (ap (λ (x : Option Event). cond (present x) 0 2) n)
           (subst (λ (x : Option Event). Plainly (outcome (answer.Flag (v .signaled)) (awake (set w (placeOf w 1 key + at.signaled) 1)))
-          (given x (gives Done s) (λ (z : Event). gives (Flag (z .signaled)) (withDispatcher s (wake (withObjects (s .dispatcher) (putObject (signaledAs true z) l))))))) (sym (ap asEvent e))
+          (given x (gives Done s) (λ (z : Event). gives (Flag (z .signaled)) (withDispatcher s (wake (withObjects (s .dispatcher) (putObject (signaledAs true z) l))))))) (sym n)
           (record {
             answers = refl;
             agree = agree-awake (set w (placeOf w 1 key + at.signaled) 1) s (withObjects (s .dispatcher) (putObject (signaledAs true v) l)) (signaled v e true) (kept v e true) (valid .sound .standing);
@@ -111,26 +102,22 @@ module _ (w : List ℕ) (s : State) (a : Agree w s) (key : ℕ) where
 
   reset-agrees : Plainly (wasReset w key) (step (call.ResetEvent key) s)
   unfolding wasReset refusal signalRefusal effect eventReset
-  reset-agrees = go (objectAt l key) refl
+  reset-agrees = go (eventAt l key) refl
     where
       Reset : code.Outcome → Type 0
       Reset o = Plainly o (step (call.ResetEvent key) s)
 
-      refused : (o : Option Object) → objectAt (s .dispatcher .objects) key ≡ o → asEvent o ≡ none → Plainly (wasReset w key) (step (call.ResetEvent key) s)
-      refused o e n =
-          subst (λ (p : ℕ). Reset (cond (eqb p 0) (outcome (answer.Refused 2) w) (outcome (answer.Flag (signaledAt w p)) (set w (p + at.signaled) 0)))) (sym (absent o e n))
-          (plainly-refused w s a (call.ResetEvent key) 2 (ap (λ (x : Option Event). cond (present x) 0 2) (ap asEvent e ∙ n)) (λ z. omega arith))
-
-      go : (o : Option Object) → objectAt (s .dispatcher .objects) key ≡ o → Plainly (wasReset w key) (step (call.ResetEvent key) s)
-      go none e = refused none e refl
-      go (some (mutex m)) e = refused (some (mutex m)) e refl
-      go (some (timer t)) e = refused (some (timer t)) e refl
-      go (some (event v)) e =
+      go : (o : Option Event) → eventAt (s .dispatcher .objects) key ≡ o → Plainly (wasReset w key) (step (call.ResetEvent key) s)
+      go none n =
+          subst (λ (p : ℕ). Reset (cond (eqb p 0) (outcome (answer.Refused 2) w) (outcome (answer.Flag (signaledAt w p)) (set w (p + at.signaled) 0)))) (sym (absent n))
+          (plainly-refused w s a (call.ResetEvent key) 2 (ap (λ (x : Option Event). cond (present x) 0 2) n) (λ z. omega arith))
+      go (some v) n =
+          let e = event-found (objectAt l key) v n in
           subst (λ (b : Bool). Reset (cond b (outcome (answer.Refused 2) w) (outcome (answer.Flag (signaledAt w (placeOf w 1 key))) (set w (placeOf w 1 key + at.signaled) 0)))) (sym (there v e))
           (subst (λ (b : Bool). Reset (outcome (answer.Flag b) (set w (placeOf w 1 key + at.signaled) 0))) (sym (was v e))
-          (plainly-accepted s (call.ResetEvent key) (outcome (answer.Flag (v .signaled)) (set w (placeOf w 1 key + at.signaled) 0)) (ap (λ (x : Option Event). cond (present x) 0 2) (ap asEvent e))
+          (plainly-accepted s (call.ResetEvent key) (outcome (answer.Flag (v .signaled)) (set w (placeOf w 1 key + at.signaled) 0)) (ap (λ (x : Option Event). cond (present x) 0 2) n)
           (subst (λ (x : Option Event). Plainly (outcome (answer.Flag (v .signaled)) (set w (placeOf w 1 key + at.signaled) 0))
-          (given x (gives Done s) (λ (z : Event). gives (Flag (z .signaled)) (withTable s (putObject (signaledAs false z) l))))) (sym (ap asEvent e))
+          (given x (gives Done s) (λ (z : Event). gives (Flag (z .signaled)) (withTable s (putObject (signaledAs false z) l))))) (sym n)
           (record { answers = refl; agree = agree-held (set w (placeOf w 1 key + at.signaled) 0) s (withTable s (putObject (signaledAs false v) l)) (signaled v e false) (kept v e false) }))))
 
 -- ---- the calls

@@ -11,7 +11,7 @@ use Rattle.model.specs.State.{State, Dispatcher, satisfied, Named, Object, mute
 use Rattle.model.specs.Threads.{statusOf, waitOf, withObjects, becomes, woken}
 use Rattle.model.specs.Waits.{keyOf, objectAt, namedIn, putObject, takenBy, take, takeEvery, takes, firstAvailable, noObject, index, canWake, wakeOne, pass, wake}
 use Rattle.model.proofs.TableLaws.{found, rising-put}
-use Rattle.model.proofs.ObjectLaws.{of-kind}
+use Rattle.model.proofs.ObjectLaws.{taken-key, of-kind}
 use Rattle.agreement.specs.Row.{Row}
 use Rattle.agreement.specs.Records.{activeAddress, dpcRow, holderOf}
 use Rattle.agreement.specs.Agree.{dpcsFrom, Agreeing, Agree}
@@ -39,11 +39,6 @@ agree-holder w s holder holder′ active e a = record {
 pub record Held (l l′ : List Object) : Type 0 where
   pub rising : Rising keyOf l′
   pub same : (a : ℕ) → holderOf l′ a ≡ holderOf l a
-
-taken-key : (id : ℕ) (o : Object) → keyOf (takenBy id o) ≡ keyOf o
-taken-key id (mutex m) = refl
-taken-key id (event e) = refl
-taken-key id (timer t) = refl
 
 taken-held : (a id : ℕ) (o : Object) (k : ℕ) → heldBy a (takenBy id o) k ≡ heldBy a o k
 taken-held a id (mutex m) k = refl

@@ -14,16 +14,16 @@ use Rattle.answers.specs.Outcome.{outcome}
 use Rattle.answers.specs.declared.Answer.the-variants as answer
 use Rattle.mutexes.specs.Mutexes as words
 use Rattle.model.specs.Lists.{given}
-use Rattle.model.specs.State.{State, Mutex, Object, mutex, event, timer}
+use Rattle.model.specs.State.{State, Mutex, Object, mutex}
 use Rattle.model.specs.Threads.{withObjects}
-use Rattle.model.specs.Waits.{keyOf, objectAt, asMutex, mutexAt, ofKind, putObject, ownedBy, wake}
+use Rattle.model.specs.Waits.{keyOf, objectAt, mutexAt, putObject, ownedBy, wake}
 use Rattle.model.specs.Valid.{Valid}
 use Rattle.model.specs.Refusal.{releaseRefusal}
 use Rattle.model.specs.Answer.{gives, Done}
 use Rattle.model.specs.Call as call
 use Rattle.model.specs.Step.{step, refusal, effect, withDispatcher, mutexReleased}
 use Rattle.model.proofs.TableLaws.{found}
-use Rattle.model.proofs.ObjectLaws.{mutex-found}
+use Rattle.model.proofs.ObjectLaws.{mutex-found, mutex-absent}
 use Rattle.agreement.specs.Records.{holderOf, activeAddress}
 use Rattle.agreement.specs.Agree.{Agreeing, Agree}
 use Rattle.agreement.specs.Matches.{Plainly}
@@ -51,27 +51,19 @@ module _ (w : List ℕ) (s : State) (a : Agree w s) (key : ℕ) where
   known-is : _≡_ {A = ℕ} (cond (eqb (placeOf w 0 key) 0) 2 (cond (eqb (words.ownerOf w key) (s .dispatcher .current)) 0 10))
       (given (mutexAt (s .dispatcher .objects) key) 2 (λ (m : Mutex). cond (eqb (m .owner) (s .dispatcher .current)) 0 10))
   unfolding words.ownerOf
-  known-is = go (objectAt l key) refl
+  known-is = go (mutexAt l key) refl
     where
       test : ℕ → ℕ
       test p = cond (eqb p 0) 2 (cond (eqb (cond (eqb p 0) 0 (getD w (p + at.owner) 0)) c) 0 10)
 
-      absent : (o : Option Object) → objectAt (s .dispatcher .objects) key ≡ o → ofKind 0 o ≡ none → asMutex o ≡ none
-          → test (placeOf w 0 key) ≡ given (mutexAt (s .dispatcher .objects) key) 2 (λ (m : Mutex). cond (eqb (m .owner) (s .dispatcher .current)) 0 10)
-      absent o e n q =
-          ap test (place-none w s held active a (record { kind = 0; key = key }) (ap (ofKind 0) e ∙ n))
-          ∙ sym (ap (λ (x : Option Mutex). given x 2 (λ (m : Mutex). cond (eqb (m .owner) c) 0 10)) (ap asMutex e ∙ q))
-
-      go : (o : Option Object) → objectAt (s .dispatcher .objects) key ≡ o
-          → test (placeOf w 0 key) ≡ given (mutexAt (s .dispatcher .objects) key) 2 (λ (m : Mutex). cond (eqb (m .owner) (s .dispatcher .current)) 0 10)
-      go none e = absent none e refl refl
-      go (some (event v)) e = absent (some (event v)) e refl refl
-      go (some (timer t)) e = absent (some (timer t)) e refl refl
-      go (some (mutex m)) e =
+      go : (o : Option Mutex) → mutexAt (s .dispatcher .objects) key ≡ o
+          → test (placeOf w 0 key) ≡ given o 2 (λ (m : Mutex). cond (eqb (m .owner) (s .dispatcher .current)) 0 10)
+      go none e = ap test (place-none w s held active a (record { kind = 0; key = key }) (mutex-absent (objectAt l key) e))
+      go (some m) q =
+          let e = mutex-found (objectAt l key) m q in
           ap test (object-place w s held active a key (mutex m) e)
           ∙ ap (λ (b : Bool). cond b 2 (cond (eqb (cond b 0 (getD w (p + at.owner) 0)) c) 0 10)) (place-there w s held active a key)
           ∙ ap (λ (n : ℕ). cond (eqb n c) 0 10) (object-row w s held active a key (mutex m) e 4 (m .owner) refl)
-          ∙ sym (ap (λ (x : Option Mutex). given x 2 (λ (m : Mutex). cond (eqb (m .owner) c) 0 10)) (ap asMutex e))
         where
           p : ℕ
           p = placeIn w s held active a key

@@ -11,9 +11,10 @@ use lib.Dec.{eqb, ltb}
 use Rattle.images.specs.declared.Timer.{Timer}
 use Rattle.model.specs.Lists.{Mem, given, firstOf}
 use Rattle.model.specs.Table.{find, put, Above, Rising}
-use Rattle.model.specs.State.{Object, mutex, event, timer}
-use Rattle.model.specs.Waits.{keyOf, objectAt, putObject, timersOf}
+use Rattle.model.specs.State.{Object}
+use Rattle.model.specs.Waits.{keyOf, onTimer, objectAt, putObject, timersOf}
 use Rattle.model.proofs.TableLaws.{none-some, some-same, found}
+use Rattle.model.proofs.ObjectLaws.{on-timer₂}
 use Rattle.agreement.specs.Records.{holds, holderOf}
 
 -- ---- where the record stands
@@ -54,18 +55,14 @@ module _ {A : Type 0} (key : A → ℕ) where
 
 -- the first that has it, this object or one of the others
 abbrev pub heldBy : ℕ → Object → ℕ → ℕ
-heldBy a (mutex m) k = k
-heldBy a (event e) k = k
-heldBy a (timer t) k = cond (holds a t) (t .address) k
+heldBy a x k = onTimer k (λ t. cond (holds a t) (t .address) k) x
 
 holder-cons : (x : Object) (l : List Object) (a : ℕ) → holderOf (x ∷ l) a ≡ heldBy a x (holderOf l a)
-holder-cons (mutex m) l a = refl
-holder-cons (event e) l a = refl
-holder-cons (timer t) l a = go (holds a t)
+holder-cons x l a = on-timer₂ (λ ts k. given (firstOf (holds a) ts) 0 (λ (t : Timer). t .address) ≡ k) x (λ n. refl) (λ t q. go t (holds a t))
   where
-    go : (b : Bool) → given (cond b (some t) (firstOf (holds a) (timersOf l))) 0 (λ (t : Timer). t .address) ≡ cond b (t .address) (holderOf l a)
-    go true = refl
-    go false = refl
+    go : (t : Timer) (b : Bool) → given (cond b (some t) (firstOf (holds a) (timersOf l))) 0 (λ (t : Timer). t .address) ≡ cond b (t .address) (holderOf l a)
+    go t true = refl
+    go t false = refl
 
 holder-split : (a : ℕ) (x o : Object) → ((k : ℕ) → heldBy a x k ≡ heldBy a o k) → (ys zs : List Object) → holderOf (ys ++ (x ∷ zs)) a ≡ holderOf (ys ++ (o ∷ zs)) a
 holder-split a x o h [] zs = holder-cons x zs a ∙ h (holderOf zs a) ∙ sym (holder-cons o zs a)

@@ -17,7 +17,7 @@ use Rattle.answers.specs.Outcome.{outcome}
 use Rattle.answers.specs.declared.Answer.the-variants as answer
 use Rattle.threading.specs.Thread as words
 use Rattle.model.specs.Lists.{Mem, any, nth, without}
-use Rattle.model.specs.State.{State, Dispatcher, Thread, running, exited, Mutex, Object, mutex, event, timer}
+use Rattle.model.specs.State.{State, Dispatcher, Thread, running, exited, Mutex, Object, mutex}
 use Rattle.model.specs.Threads.{threadOf, statusOf, isReady, isWaiting, changeAt, withStatus, withThread, becomes, terminated}
 use Rattle.model.specs.Waits.{kindOf, mutexesOf, wake}
 use Rattle.model.specs.Valid.{Valid}
@@ -26,6 +26,7 @@ use Rattle.model.specs.Call as call
 use Rattle.model.specs.Step.{step, refusal, effect, withDispatcher}
 use Rattle.model.proofs.ListLaws.{not-both, mem-member, without-absent}
 use Rattle.model.proofs.ThreadLaws.{standing-moved}
+use Rattle.model.proofs.ObjectLaws.{on-mutex₂, on-mutex}
 use Rattle.model.proofs.KeepLaws.{current-known}
 use Rattle.agreement.specs.Records.{holderOf, activeAddress}
 use Rattle.agreement.specs.Agree.{objectsFrom, Agreeing, Agree}
@@ -61,17 +62,15 @@ module _ (w : List ℕ) (s : State) (a : Agree w s) where
   owner-at id i x e h =
       ap (λ (p : ℕ). cond (eqb (getD w (p + at.kind) 0) 0) (eqb (getD w (p + at.owner) 0) id) false) (entry-place base i (omega (arith, a .shape .sizes .limits .threads)) (omega arith))
       ∙ ap (λ (k : ℕ). cond (eqb k 0) (eqb (getD w (base + 32 * i + at.owner) 0) id) false) (object-kinds w s held active a i x e)
-      ∙ go x e
+      ∙ on-mutex (λ ms. cond (eqb (kindOf x) 0) owns false ≡ any (λ (m : Mutex). eqb (m .owner) id) ms) x (λ n. ap (λ (b : Bool). cond b owns false) n)
+      (λ m q. ap (λ (y : Object). cond (eqb (kindOf y) 0) owns false) q ∙ ap (λ (n : ℕ). eqb n id) (a .objects i (mutex m) (e ∙ ap some q) 4 (m .owner) refl) ∙ once (eqb (m .owner) id))
     where
+      owns : Bool
+      owns = eqb (getD w (base + 32 * i + at.owner) 0) id
+
       once : (b : Bool) → b ≡ cond b true false
       once true = refl
       once false = refl
-
-      go : (x : Object) → nth (s .dispatcher .objects) i ≡ some x
-          → cond (eqb (kindOf x) 0) (eqb (getD w (base + 32 * i + at.owner) 0) id) false ≡ any (λ (m : Mutex). eqb (m .owner) id) (mutexesOf (x ∷ []))
-      go (mutex m) e = ap (λ (n : ℕ). eqb n id) (a .objects i (mutex m) e 4 (m .owner) refl) ∙ once (eqb (m .owner) id)
-      go (event v) e = refl
-      go (timer t) e = refl
 
   owns-in : (id : ℕ) (xs : List Object) (i : ℕ) → ((j : ℕ) (x : Object) → nth xs j ≡ some x → nth (s .dispatcher .objects) (i + j) ≡ some x) → i + length xs ≤ 4096
       → words.ownsIn (length xs) w (objectsFrom (s .limits)) i id ≡ any (λ (m : Mutex). eqb (m .owner) id) (mutexesOf xs)
@@ -90,9 +89,8 @@ module _ (w : List ℕ) (s : State) (a : Agree w s) where
 
       join : (x : Object) → cond (any (λ (m : Mutex). eqb (m .owner) id) (mutexesOf (x ∷ []))) true (any (λ (m : Mutex). eqb (m .owner) id) (mutexesOf xs))
           ≡ any (λ (m : Mutex). eqb (m .owner) id) (mutexesOf (x ∷ xs))
-      join (mutex m) = or (eqb (m .owner) id) (any (λ (m : Mutex). eqb (m .owner) id) (mutexesOf xs))
-      join (event v) = refl
-      join (timer t) = refl
+      join x = on-mutex₂ (λ one more. cond (any (λ (m : Mutex). eqb (m .owner) id) one) true (any (λ (m : Mutex). eqb (m .owner) id) (mutexesOf xs)) ≡ any (λ (m : Mutex). eqb (m .owner) id) more)
+          x (λ n. refl) (λ m q. or (eqb (m .owner) id) (any (λ (m : Mutex). eqb (m .owner) id) (mutexesOf xs)))
 
   pub owns-is : (id : ℕ) → words.ownsMutex w id ≡ ownsMutex (s .dispatcher .objects) id
   unfolding words.ownsMutex

@@ -14,10 +14,10 @@ use Rattle.waits.specs.Object as words
 use Rattle.model.specs.Lists.{given, present}
 use Rattle.model.specs.State.{State, Status, running, ready, waiting, exited, Named, Mutex, Object, mutex, event, timer}
 use Rattle.model.specs.Threads.{isThread, hasExited, statusOf}
-use Rattle.model.specs.Waits.{keyOf, kindOf, objectAt, asMutex, mutexAt, ofKind, namedIn, exists, isFree, isAvailable}
+use Rattle.model.specs.Waits.{keyOf, kindOf, objectAt, mutexAt, ofKind, namedIn, exists, isFree, isAvailable}
 use Rattle.model.specs.Refusal.{isOwn}
 use Rattle.model.proofs.TableLaws.{none-some}
-use Rattle.model.proofs.ObjectLaws.{of-kind}
+use Rattle.model.proofs.ObjectLaws.{mutex-found, mutex-absent, of-kind}
 use Rattle.model.proofs.SoundLaws.{thread-is}
 use Rattle.agreement_tables.specs.Tables.{below}
 use Rattle.agreement.specs.Records.{flag, statusNumber}
@@ -131,21 +131,20 @@ module _ (w : List ℕ) (s : State) (holder : ℕ → ℕ) (active : ℕ) (a : A
       id : ℕ
       id = s .dispatcher .current
 
-      by : (o : Option Object) → objectAt l (n .key) ≡ o
-          → cond (eqb (placeOf w 0 (n .key)) 0) false (eqb (getD w (placeOf w 0 (n .key) + at.owner) 0) id) ≡ given (asMutex o) false (λ (m : Mutex). eqb (m .owner) id)
-      by none e = ap (λ (p : ℕ). cond (eqb p 0) false (eqb (getD w (p + at.owner) 0) id)) (place-none (record { kind = 0; key = n .key }) (ap (ofKind 0) e))
-      by (some (mutex m)) e =
+      by : (o : Option Mutex) → mutexAt l (n .key) ≡ o
+          → cond (eqb (placeOf w 0 (n .key)) 0) false (eqb (getD w (placeOf w 0 (n .key) + at.owner) 0) id) ≡ given o false (λ (m : Mutex). eqb (m .owner) id)
+      by none e = ap (λ (p : ℕ). cond (eqb p 0) false (eqb (getD w (p + at.owner) 0) id)) (place-none (record { kind = 0; key = n .key }) (mutex-absent (objectAt l (n .key)) e))
+      by (some m) q =
+          let e = mutex-found (objectAt l (n .key)) m q in
           let h = place-some (record { kind = 0; key = n .key }) (mutex m) (ap (ofKind 0) e) in
           ap (λ (p : ℕ). cond (eqb p 0) false (eqb (getD w (p + at.owner) 0) id)) (h .0)
           ∙ ap (λ (b : Bool). cond b false (eqb (getD w (placeIn (n .key) + 4) 0) id)) (place-there (n .key))
           ∙ ap (λ (v : ℕ). eqb v id) (object-row w s holder active a (n .key) (mutex m) e 4 (m .owner) refl)
-      by (some (event v)) e = ap (λ (p : ℕ). cond (eqb p 0) false (eqb (getD w (p + at.owner) 0) id)) (place-none (record { kind = 0; key = n .key }) (ap (ofKind 0) e))
-      by (some (timer t)) e = ap (λ (p : ℕ). cond (eqb p 0) false (eqb (getD w (p + at.owner) 0) id)) (place-none (record { kind = 0; key = n .key }) (ap (ofKind 0) e))
 
       go : (b : Bool) → eqb (n .kind) 0 ≡ b
           → cond b (cond (eqb (placeOf w (n .kind) (n .key)) 0) false (eqb (getD w (placeOf w (n .kind) (n .key) + at.owner) 0) id)) false
           ≡ cond b (given (mutexAt l (n .key)) false (λ (m : Mutex). eqb (m .owner) id)) false
       go true e =
           ap (λ (k : ℕ). cond (eqb (placeOf w k (n .key)) 0) false (eqb (getD w (placeOf w k (n .key) + at.owner) 0) id)) (eqb-true (n .kind) 0 e)
-          ∙ by (objectAt l (n .key)) refl
+          ∙ by (mutexAt l (n .key)) refl
       go false e = refl

@@ -8,14 +8,14 @@ use mathlib.Core.Path.{_≡_, refl, sym, ap, _∙_}
 use native.Mathlib.Decide.{ℕ-discrete}
 use lib.ListN.{getD}
 use Rattle.model.specs.Lists.{Mem, nth, any, given}
-use Rattle.model.specs.State.{Limits, Dispatcher, Thread, waiting, Wait, satisfied, Named, Event, Object, mutex, event, timer}
+use Rattle.model.specs.State.{Limits, Dispatcher, Thread, waiting, Wait, satisfied, Named, Event, Object, event}
 use Rattle.model.specs.Threads.{count, threadOf, statusOf, hasExited, isWaiting, waitOf, withObjects, readyAgain, becomes, woken}
 use Rattle.model.specs.Waits.{keyOf, objectAt, namedIn, putObject, takenBy, take, takeEvery, takes, isAvailable, everyAvailable, firstAvailable, noObject, index, canWake, wakeOne, pass}
 use Rattle.model.specs.Valid.{Sound}
 use Rattle.model.proofs.ListLaws.{not-both}
 use Rattle.model.proofs.TableLaws.{some-same, found, find-put-own, find-put-other}
 use Rattle.model.proofs.ThreadLaws.{change-own, change-other, stands-somewhere}
-use Rattle.model.proofs.ObjectLaws.{Falls, Restated, of-kind, takes-restated, available-falls}
+use Rattle.model.proofs.ObjectLaws.{Falls, Restated, taken-key, of-kind, takes-restated, available-falls}
 use Rattle.model.proofs.SoundLaws.{sound-becomes, unmet-after, is-live}
 use Rattle.model.proofs.WakeLaws.{sound-restated}
 use Rattle.agreement_wakes.proofs.Wake.{granted}
@@ -96,11 +96,6 @@ module _ (id key : ℕ) (v : Event) (manual : v .manual ≡ true) where
           g : objectAt l (n .key) ≡ some o
           g = of-kind (n .kind) (objectAt l (n .key)) o e
 
-          same-key : (o : Object) → keyOf (takenBy id o) ≡ keyOf o
-          same-key (mutex m) = refl
-          same-key (event u) = refl
-          same-key (timer u) = refl
-
           -- it is the event itself, and taking leaves it
           left : event v ≡ o → takenBy id o ≡ event v
           left q = ap (takenBy id) (sym q) ∙ ap (λ (b : Bool). event (record { key = v .key; manual = v .manual; signaled = cond b (v .signaled) false })) manual
@@ -108,7 +103,7 @@ module _ (id key : ℕ) (v : Event) (manual : v .manual ≡ true) where
           by : Dec (key ≡ keyOf (takenBy id o)) → objectAt (putObject (takenBy id o) l) key ≡ some (event v)
           by (yes q) =
               ap (objectAt (putObject (takenBy id o) l)) q ∙ find-put-own keyOf (takenBy id o) l
-              ∙ ap {B = Option Object} some (left (some-same (event v) o (sym f ∙ ap (objectAt l) (q ∙ same-key o ∙ found keyOf l (n .key) o g .1) ∙ g)))
+              ∙ ap {B = Option Object} some (left (some-same (event v) o (sym f ∙ ap (objectAt l) (q ∙ taken-key id o ∙ found keyOf l (n .key) o g .1) ∙ g)))
           by (no q) = find-put-other keyOf (takenBy id o) l key q ∙ f
 
   stays-every : (l : List Object) (ns : List Named) → objectAt l key ≡ some (event v) → objectAt (takeEvery id l ns) key ≡ some (event v)

@@ -3,16 +3,16 @@ use Prim.Native.Nat.{ℕ}
 use mathlib.Core.List.{List}
 use mathlib.Core.Bool.{true, false}
 use mathlib.Core.Option.{some}
-use mathlib.Core.Path.{_≡_, sym, _∙_}
+use mathlib.Core.Path.{_≡_, ap, _∙_, subst}
 use Rattle.images.specs.declared.Timer.{Timer}
 use Rattle.model.specs.Lists.{Mem}
 use Rattle.model.specs.Table.{Rising}
-use Rattle.model.specs.State.{Object, mutex, event, timer}
+use Rattle.model.specs.State.{Object, timer}
 use Rattle.model.specs.Waits.{keyOf, objectAt, putObject}
 use Rattle.model.specs.Timers.{isNamedByOther}
 use Rattle.model.specs.Valid.{Each, Alone}
-use Rattle.model.proofs.ListLaws.{not-both}
 use Rattle.model.proofs.TableLaws.{found, mem-found}
+use Rattle.model.proofs.ObjectLaws.{timer-passes}
 use Rattle.model.proofs.LinkLaws.{unnamed-by-other}
 use Rattle.agreement.specs.Records.{holds, holderOf}
 use Rattle.agreement_work.proofs.Holders.{has, holder-is}
@@ -25,11 +25,10 @@ pub holder-armed : (l : List Object) → Rising keyOf l → (t : Timer) → t .i
 holder-armed l r t i e = holder-put-own (timer t) l (t .dpc) (parts-hold t i) only
   where
     only : (y : Object) → Mem y l → has (t .dpc) y ≡ true → keyOf y ≡ t .address
-    only (mutex m) n h = absurd (not-both (sym h))
-    only (event v) n h = absurd (not-both (sym h))
-    only (timer u) n h =
-        let p = holds-parts (t .dpc) u h in
-        unnamed-by-other l (t .address) (t .dpc) e (u .address) u (mem-found keyOf l r (timer u) n) (p .0) (p .1)
+    only y n h =
+        let u = timer-passes (holds (t .dpc)) y h in
+        let p = holds-parts (t .dpc) (u .0) (u .2) in
+        ap keyOf (u .1) ∙ unnamed-by-other l (t .address) (t .dpc) e (u .0 .address) (u .0) (mem-found keyOf l r (timer (u .0)) (subst (λ (z : Object). Mem z l) (u .1) n)) (p .0) (p .1)
 
 module _ (l : List Object) (r : Rising keyOf l) (alone : Each keyOf l (λ x. Each keyOf l (λ y. Alone x y))) (a : ℕ) (some-dpc : a ≡ 0 → ⊥) where
   -- a timer that has the DPC is the one that the DPC's record keeps

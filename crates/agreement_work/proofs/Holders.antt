@@ -7,25 +7,23 @@ use mathlib.Core.Logic.{_⊎_, inl, inr}
 use mathlib.Core.Path.{_≡_, refl, sym, ap, _∙_}
 use Rattle.images.specs.declared.Timer.{Timer}
 use Rattle.model.specs.Lists.{Mem, keep, firstOf, given}
-use Rattle.model.specs.State.{Object, mutex, event, timer}
-use Rattle.model.specs.Waits.{keyOf, timersOf}
+use Rattle.model.specs.State.{Object, timer}
+use Rattle.model.specs.Waits.{keyOf, onTimer, timersOf}
 use Rattle.model.proofs.ListLaws.{not-both}
+use Rattle.model.proofs.ObjectLaws.{on-timer₂, timer-passes}
 use Rattle.agreement.specs.Records.{holds, holderOf}
 
 -- the object is an inserted timer that has the DPC
 abbrev pub has : ℕ → Object → Bool
-has a (mutex m) = false
-has a (event e) = false
-has a (timer t) = holds a t
+has a = onTimer false (holds a)
 
 pub holder-cons : (x : Object) (l : List Object) (a : ℕ) → holderOf (x ∷ l) a ≡ cond (has a x) (keyOf x) (holderOf l a)
-holder-cons (mutex m) l a = refl
-holder-cons (event e) l a = refl
-holder-cons (timer t) l a = go (holds a t)
+holder-cons x l a = on-timer₂ (λ ts b. given (firstOf (holds a) ts) 0 (λ (u : Timer). u .address) ≡ cond b (keyOf x) (holderOf l a)) x (λ n. refl)
+    (λ t q. go t (holds a t) ∙ ap (λ (k : ℕ). cond (holds a t) k (holderOf l a)) (sym (ap keyOf q)))
   where
-    go : (b : Bool) → given (cond b (some t) (firstOf (holds a) (timersOf l))) 0 (λ (u : Timer). u .address) ≡ cond b (t .address) (holderOf l a)
-    go true = refl
-    go false = refl
+    go : (t : Timer) (b : Bool) → given (cond b (some t) (firstOf (holds a) (timersOf l))) 0 (λ (u : Timer). u .address) ≡ cond b (t .address) (holderOf l a)
+    go t true = refl
+    go t false = refl
 
 pub holder-yes : (x : Object) (l : List Object) (a : ℕ) → has a x ≡ true → holderOf (x ∷ l) a ≡ keyOf x
 holder-yes x l a e = holder-cons x l a ∙ ap (λ (b : Bool). cond b (keyOf x) (holderOf l a)) e
@@ -57,10 +55,10 @@ holder-is (x ∷ l) a k h y m t = go (has a x) refl (λ n. holder-is l a k (λ z
 
 -- which of the two it is
 pub record Held (l : List Object) (a : ℕ) : Type 0 where
-  pub object : Object
-  pub stands : Mem object l
-  pub is : has a object ≡ true
-  pub named : holderOf l a ≡ keyOf object
+  pub holder : Timer
+  pub stands : Mem (timer holder) l
+  pub is : holds a holder ≡ true
+  pub named : holderOf l a ≡ holder .address
 
 pub record Unheld (l : List Object) (a : ℕ) : Type 0 where
   pub none : (x : Object) → Mem x l → has a x ≡ false
@@ -75,8 +73,8 @@ held (x ∷ l) a = go (has a x) refl (held l a)
     none-of e h y (inr m) = h y m
 
     go : (b : Bool) → has a x ≡ b → Held l a ⊎ Unheld l a → Held (x ∷ l) a ⊎ Unheld (x ∷ l) a
-    go true e h = inl (record { object = x; stands = inl refl; is = e; named = holder-yes x l a e })
-    go false e (inl h) = inl (record { object = h .object; stands = inr (h .stands); is = h .is; named = holder-no x l a e ∙ h .named })
+    go true e h = let p = timer-passes (holds a) x e in inl (record { holder = p .0; stands = inl (sym (p .1)); is = p .2; named = holder-yes x l a e ∙ ap keyOf (p .1) })
+    go false e (inl h) = inl (record { holder = h .holder; stands = inr (h .stands); is = h .is; named = holder-no x l a e ∙ h .named })
     go false e (inr h) = inr (record { none = none-of e (h .none); named = holder-no x l a e ∙ h .named })
 
 -- what goes is no inserted timer that has it

@@ -3,7 +3,7 @@ use Prim.Native.Nat.{ℕ}
 use mathlib.Core.List.{List}
 use mathlib.Core.Bool.{Bool, true, false, cond, not}
 use mathlib.Core.Logic.{_⊎_, inl, inr}
-use mathlib.Core.Path.{_≡_, refl, sym, ap, _∙_}
+use mathlib.Core.Path.{_≡_, refl, sym, ap, _∙_, subst}
 use native.Mathlib.Omega.{arith}
 use lib.Dec.{eqb}
 use borrow.Author.Tests.{eq-eqb, ne-eqb, eqb-true, eqb-false}
@@ -12,12 +12,13 @@ use Rattle.images.specs.Place.{timerSize}
 use Rattle.images.proofs.PlaceLaws.{located}
 use Rattle.model.specs.Lists.{Mem}
 use Rattle.model.specs.Table.{Rising}
-use Rattle.model.specs.State.{Object, mutex, event, timer}
+use Rattle.model.specs.State.{Object, timer}
 use Rattle.model.specs.Waits.{keyOf, timersOf}
 use Rattle.model.specs.Timers.{isNamed, isNamedByOther}
 use Rattle.model.specs.Valid.{Each, Placed, Alone}
 use Rattle.model.proofs.ListLaws.{not-both, any-false, any-none, any-at}
 use Rattle.model.proofs.TableLaws.{each-mem}
+use Rattle.model.proofs.ObjectLaws.{on-timer, timer-passes}
 use Rattle.model.proofs.LinkLaws.{timer-mem, mem-timer}
 use Rattle.agreement.specs.Records.{holds, holderOf}
 use Rattle.agreement_work.proofs.Holders.{has, Held, Unheld, held, holder-absent}
@@ -47,9 +48,7 @@ pub holder-none : (l : List Object) (a : ℕ) → isNamed l a ≡ false → hold
 holder-none l a e = holder-absent l a none-has
   where
     none-has : (x : Object) → Mem x l → has a x ≡ false
-    none-has (mutex m) i = refl
-    none-has (event v) i = refl
-    none-has (timer t) i = any-false (holds a) (timersOf l) e t (timer-mem l t i)
+    none-has x i = on-timer (λ b. b ≡ false) x (λ n. refl) (λ t q. any-false (holds a) (timersOf l) e t (timer-mem l t (subst (λ (y : Object). Mem y l) q i)))
 
 module _ (l : List Object) (r : Rising keyOf l) (places : Each keyOf l Placed) where
   -- no timer stands at 0
@@ -60,13 +59,11 @@ module _ (l : List Object) (r : Rising keyOf l) (places : Each keyOf l Placed) w
   pub is-named : (a : ℕ) → isNamed l a ≡ not (eqb (holderOf l a) 0)
   is-named a = go (held l a)
     where
-      one : (x : Object) → Mem x l → has a x ≡ true → isNamed l a ≡ not (eqb (keyOf x) 0)
-      one (mutex m) i e = absurd (not-both (sym e))
-      one (event v) i e = absurd (not-both (sym e))
-      one (timer t) i e = any-at (holds a) t (timersOf l) (timer-mem l t i) e ∙ ap not (sym (ne-eqb (t .address) 0 (timer-placed t i)))
+      one : (t : Timer) → Mem (timer t) l → holds a t ≡ true → isNamed l a ≡ not (eqb (t .address) 0)
+      one t i e = any-at (holds a) t (timersOf l) (timer-mem l t i) e ∙ ap not (sym (ne-eqb (t .address) 0 (timer-placed t i)))
 
       go : Held l a ⊎ Unheld l a → isNamed l a ≡ not (eqb (holderOf l a) 0)
-      go (inl h) = one (h .object) (h .stands) (h .is) ∙ ap (λ (k : ℕ). not (eqb k 0)) (sym (h .named))
+      go (inl h) = one (h .holder) (h .stands) (h .is) ∙ ap (λ (k : ℕ). not (eqb k 0)) (sym (h .named))
       go (inr h) = any-none (holds a) (timersOf l) (λ t m. h .none (timer t) (mem-timer l t m)) ∙ ap not (sym (eq-eqb (holderOf l a) 0 (h .named)))
 
   pub holder-some : (a : ℕ) → isNamed l a ≡ true → holderOf l a ≡ 0 → ⊥
@@ -83,11 +80,10 @@ module _ (l : List Object) (r : Rising keyOf l) (alone : Each keyOf l (λ x. Eac
       (p .0) (q .0) (λ z. some (sym (p .1) ∙ z)) (p .1 ∙ sym (q .1))
 
   pub alone-has : (x y : Object) → Mem x l → Mem y l → has a x ≡ true → has a y ≡ true → keyOf x ≡ keyOf y
-  alone-has (mutex x) y m n e f = absurd (not-both (sym e))
-  alone-has (event x) y m n e f = absurd (not-both (sym e))
-  alone-has (timer t) (mutex y) m n e f = absurd (not-both (sym f))
-  alone-has (timer t) (event y) m n e f = absurd (not-both (sym f))
-  alone-has (timer t) (timer u) m n e f = alone-holds t u m n e f
+  alone-has x y m n e f =
+      let p = timer-passes (holds a) x e in
+      let q = timer-passes (holds a) y f in
+      ap keyOf (p .1) ∙ alone-holds (p .0) (q .0) (subst (λ (z : Object). Mem z l) (p .1) m) (subst (λ (z : Object). Mem z l) (q .1) n) (p .2) (q .2) ∙ sym (ap keyOf (q .1))
 
   abbrev another : ℕ → Timer → Bool
   another address t = cond (eqb (t .address) address) false (holds a t)
@@ -117,17 +113,15 @@ module _ (l : List Object) (r : Rising keyOf l) (alone : Each keyOf l (λ x. Eac
           by true h = own u (sym (alone-holds t u i (mem-timer l u m) e h) ∙ q)
           by false h = unheld u h
 
-      one : (x : Object) → Mem x l → has a x ≡ true → isNamedByOther l address a ≡ cond (eqb (keyOf x) 0) false (not (eqb (keyOf x) address))
-      one (mutex m) i e = absurd (not-both (sym e))
-      one (event v) i e = absurd (not-both (sym e))
-      one (timer t) i e = by (eqb (t .address) address) refl ∙ ap (λ (b : Bool). cond b false (not (eqb (t .address) address))) (sym (ne-eqb (t .address) 0 (timer-placed l r places t i)))
+      one : (t : Timer) → Mem (timer t) l → holds a t ≡ true → isNamedByOther l address a ≡ cond (eqb (t .address) 0) false (not (eqb (t .address) address))
+      one t i e = by (eqb (t .address) address) refl ∙ ap (λ (b : Bool). cond b false (not (eqb (t .address) address))) (sym (ne-eqb (t .address) 0 (timer-placed l r places t i)))
         where
           by : (b : Bool) → eqb (t .address) address ≡ b → isNamedByOther l address a ≡ not (eqb (t .address) address)
           by true q = any-none (another address) (timersOf l) (none-other t i e (eqb-true (t .address) address q)) ∙ ap not (sym q)
           by false q = any-at (another address) t (timersOf l) (timer-mem l t i) (other t (eqb-false (t .address) address q) e) ∙ ap not (sym q)
 
       go : Held l a ⊎ Unheld l a → isNamedByOther l address a ≡ cond (eqb (holderOf l a) 0) false (not (eqb (holderOf l a) address))
-      go (inl h) = one (h .object) (h .stands) (h .is) ∙ ap (λ (k : ℕ). cond (eqb k 0) false (not (eqb k address))) (sym (h .named))
+      go (inl h) = one (h .holder) (h .stands) (h .is) ∙ ap (λ (k : ℕ). cond (eqb k 0) false (not (eqb k address))) (sym (h .named))
       go (inr h) =
           any-none (another address) (timersOf l) (λ t m. unheld t (h .none (timer t) (mem-timer l t m)))
           ∙ ap (λ (b : Bool). cond b false (not (eqb (holderOf l a) address))) (sym (eq-eqb (holderOf l a) 0 (h .named)))

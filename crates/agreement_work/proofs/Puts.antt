@@ -11,10 +11,11 @@ use borrow.Author.Tests.{ltb-true, eqb-true, ne-eqb}
 use Rattle.images.specs.declared.Timer.{Timer}
 use Rattle.model.specs.Lists.{Mem, given}
 use Rattle.model.specs.Table.{Above, Rising}
-use Rattle.model.specs.State.{Object, mutex, event, timer}
+use Rattle.model.specs.State.{Object, timer}
 use Rattle.model.specs.Waits.{keyOf, objectAt, asTimer, timerAt, putObject}
 use Rattle.model.specs.Refusal.{isInserted}
 use Rattle.model.proofs.TableLaws.{some-same, none-some, found, mem-found, find-put-own, mem-put, rising-put}
+use Rattle.model.proofs.ObjectLaws.{on-timer₂}
 use Rattle.agreement.specs.Records.{holds, holderOf}
 use Rattle.agreement_work.proofs.Holders.{has, holder-cons, holder-no, holder-tail, holder-absent, holder-is}
 
@@ -75,10 +76,8 @@ module _ (l : List Object) (r : Rising keyOf l) where
   holder-plain x a f e = holder-put x l r a (f ∙ go (objectAt l (keyOf x)) e)
     where
       go : (o : Option Object) → asTimer o ≡ none → false ≡ given o false (has a)
-      go none q = refl
-      go (some (mutex m)) q = refl
-      go (some (event v)) q = refl
-      go (some (timer t)) q = absurd (none-some t (sym q))
+      go none = λ q. refl
+      go (some x) = on-timer₂ (λ o b. o ≡ none → false ≡ b) x (λ n q. refl) (λ t e q. absurd (none-some t (sym q)))
 
   -- a timer in the place of one, where both have the DPC or neither
   pub holder-timer : (t u : Timer) → objectAt l (t .address) ≡ some (timer u) → (a : ℕ) → holds a t ≡ holds a u → holderOf (putObject (timer t) l) a ≡ holderOf l a
@@ -95,7 +94,5 @@ module _ (l : List Object) (r : Rising keyOf l) where
   holder-idle t f e a = holder-put (timer t) l r a (ap (λ (b : Bool). cond b (eqb (t .dpc) a) false) f ∙ go (objectAt l (t .address)) e)
     where
       go : (o : Option Object) → given (asTimer o) false (λ (u : Timer). u .inserted) ≡ false → false ≡ given o false (has a)
-      go none q = refl
-      go (some (mutex m)) q = refl
-      go (some (event v)) q = refl
-      go (some (timer u)) q = ap (λ (b : Bool). cond b (eqb (u .dpc) a) false) (sym q)
+      go none = λ q. refl
+      go (some x) = on-timer₂ (λ o b. given o false (λ (u : Timer). u .inserted) ≡ false → false ≡ b) x (λ n q. refl) (λ u e q. ap (λ (b : Bool). cond b (eqb (u .dpc) a) false) (sym q))

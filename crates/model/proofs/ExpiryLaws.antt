@@ -207,7 +207,7 @@ Distincts (t ∷ ts) = ((u : Timer) → Mem u ts → u .address ≡ t .address �
 
 timers-distinct : (l : List Object) → Rising keyOf l → Distincts (timersOf l)
 timers-distinct [] r = tt
-timers-distinct (x ∷ l) r = on-timer Distincts x (timers-distinct l (r .1))
+timers-distinct (x ∷ l) r = on-timer Distincts x (λ n. timers-distinct l (r .1))
     (λ t q. (apart-above (t .address) l (subst (λ (y : Object). Above keyOf (keyOf y) l) q (r .0)), timers-distinct l (r .1)))
 
 keep-distinct : (g : Timer → Bool) (ts : List Timer) → Distincts ts → Distincts (keep g ts)

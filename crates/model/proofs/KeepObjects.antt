@@ -236,7 +236,7 @@ module _ (s : State) (v : Valid s) where
       let b = passes (eqb size 0) 22 (cond (eqb layout 0) 23 (cond (any (eventHeld s base (base + size) layout) (eventsOf (d₀ .objects))) 23 0)) (a .1) in
       let c = passes (eqb layout 0) 22 (cond (any (eventHeld s base (base + size) layout) (eventsOf (d₀ .objects))) 23 0) (b .1) in
       let g = passes (any (eventHeld s base (base + size) layout) (eventsOf (d₀ .objects))) 22 0 (c .1) in
-      valid-kept (λ o. not (isRetiredEvent base (base + size) o)) (λ i n m o f k. on-event (λ b. not b ≡ true) o refl (λ x q. stays i n m x (f ∙ ap some q) (sym (ap kindOf q) ∙ k) (eqb-false layout 0 (c .0)) (g .0)))
+      valid-kept (λ o. not (isRetiredEvent base (base + size) o)) (λ i n m o f k. on-event (λ b. not b ≡ true) o (λ z. refl) (λ x q. stays i n m x (f ∙ ap some q) (sym (ap kindOf q) ∙ k) (eqb-false layout 0 (c .0)) (g .0)))
       (linked-kept (λ o. not (isRetiredEvent base (base + size) o)) (d₀ .objects) (s .dpcs .table) (v .sound .rising) (v .linked))
     where
       stays : (i : ℕ) (n : Named) → Mem n (waitOf (statusOf d₀ i) .objects) → (x : Event) → objectAt (d₀ .objects) (n .key) ≡ some (event x) → 1 ≡ n .kind → (layout ≡ 0 → ⊥)

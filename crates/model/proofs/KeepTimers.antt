@@ -271,7 +271,7 @@ module _ (s : State) (v : Valid s) (address size : ℕ) (e : timerReleaseRefusal
   pub valid-retire-timers : Valid (timersRetired s address size)
   unfolding timersRetired
   valid-retire-timers = valid-kept (withDpcs s q) fewer-dpcs (λ o. not (isRetiredTimer address size o))
-      (λ i n m o f k. on-timer (λ b. not b ≡ true) o refl (λ t e. timer-stays i n m t (f ∙ ap some e) (sym (ap kindOf e) ∙ k)))
+      (λ i n m o f k. on-timer (λ b. not b ≡ true) o (λ z. refl) (λ t e. timer-stays i n m t (f ∙ ap some e) (sym (ap kindOf e) ∙ k)))
       (linked-kept (λ o. not (isRetiredTimer address size o)) (s .dispatcher .objects) (keep stays (s .dpcs .table)) (v .sound .rising) (fewer-dpcs .linked))
 
 -- ---- advance_to

@@ -170,11 +170,11 @@ module _ (l : List Object) (table : List Dpc) (r : Rising addressOf table) (a : 
 pub timer-mem : (l : List Object) (t : Timer) → Mem (timer t) l → Mem t (timersOf l)
 timer-mem [] t m = absurd m
 timer-mem (x ∷ l) t (inl e) = subst (λ (y : Object). Mem t (timersOf (y ∷ l))) e (inl refl)
-timer-mem (x ∷ l) t (inr m) = on-timer (Mem t) x (timer-mem l t m) (λ u e. inr (timer-mem l t m))
+timer-mem (x ∷ l) t (inr m) = on-timer (Mem t) x (λ n. timer-mem l t m) (λ u e. inr (timer-mem l t m))
 
 pub mem-timer : (l : List Object) (t : Timer) → Mem t (timersOf l) → Mem (timer t) l
 mem-timer [] t = λ m. absurd m
-mem-timer (x ∷ l) t = on-timer (λ ts. Mem t ts → Mem (timer t) (x ∷ l)) x (λ m. inr (mem-timer l t m)) (λ u e. ⊎-elim (λ q. inl (ap timer q ∙ sym e)) (λ m. inr (mem-timer l t m)))
+mem-timer (x ∷ l) t = on-timer (λ ts. Mem t ts → Mem (timer t) (x ∷ l)) x (λ n m. inr (mem-timer l t m)) (λ u e. ⊎-elim (λ q. inl (ap timer q ∙ sym e)) (λ m. inr (mem-timer l t m)))
 
 pub timer-found-mem : (l : List Object) (k : ℕ) (t : Timer) → objectAt l k ≡ some (timer t) → Mem t (timersOf l)
 timer-found-mem l k t e = timer-mem l t (found keyOf l k (timer t) e .0)

@@ -20,29 +20,41 @@ use Rattle.model.proofs.ListLaws.{not-both, any-falls}
 use Rattle.model.proofs.TableLaws.{some-same, none-some, found, find-put-own, find-put-other, rising-put, length-put-known, each-put}
 use Rattle.images.specs.declared.Timer.{Timer}
 
--- ---- what is said of one kind and of every other alike: it is to be shown of the kind, and of the others once
+-- ---- what is said of one kind and of every other alike: it is to be shown of the kind, and of the others once; one or two at a time
 
-pub on-mutex {ℓ} : {A : Type ℓ} (P : A → Type 0) {b : A} {f : Mutex → A} (x : Object) → P b → ((m : Mutex) → x ≡ mutex m → P (f m)) → P (onMutex b f x)
-on-mutex P (mutex m) d h = h m refl
-on-mutex P (event e) d h = d
-on-mutex P (timer t) d h = d
+pub on-mutex₂ {ℓ κ} : {A : Type ℓ} {B : Type κ} (P : A → B → Type 0) {b : A} {f : Mutex → A} {c : B} {g : Mutex → B} (x : Object) → (eqb (kindOf x) 0 ≡ false → P b c)
+    → ((m : Mutex) → x ≡ mutex m → P (f m) (g m)) → P (onMutex b f x) (onMutex c g x)
+on-mutex₂ P (mutex m) d h = h m refl
+on-mutex₂ P (event e) d h = d refl
+on-mutex₂ P (timer t) d h = d refl
 
-pub on-event {ℓ} : {A : Type ℓ} (P : A → Type 0) {b : A} {f : Event → A} (x : Object) → P b → ((e : Event) → x ≡ event e → P (f e)) → P (onEvent b f x)
-on-event P (mutex m) d h = d
-on-event P (event e) d h = h e refl
-on-event P (timer t) d h = d
+pub on-mutex {ℓ} : {A : Type ℓ} (P : A → Type 0) {b : A} {f : Mutex → A} (x : Object) → (eqb (kindOf x) 0 ≡ false → P b) → ((m : Mutex) → x ≡ mutex m → P (f m)) → P (onMutex b f x)
+on-mutex P {b} {f} x = on-mutex₂ (λ a c. P a) {c = b} {g = f} x
 
-pub on-timer {ℓ} : {A : Type ℓ} (P : A → Type 0) {b : A} {f : Timer → A} (x : Object) → P b → ((t : Timer) → x ≡ timer t → P (f t)) → P (onTimer b f x)
-on-timer P (mutex m) d h = d
-on-timer P (event e) d h = d
-on-timer P (timer t) d h = h t refl
+pub on-event₂ {ℓ κ} : {A : Type ℓ} {B : Type κ} (P : A → B → Type 0) {b : A} {f : Event → A} {c : B} {g : Event → B} (x : Object) → (eqb (kindOf x) 1 ≡ false → P b c)
+    → ((e : Event) → x ≡ event e → P (f e) (g e)) → P (onEvent b f x) (onEvent c g x)
+on-event₂ P (mutex m) d h = d refl
+on-event₂ P (event e) d h = h e refl
+on-event₂ P (timer t) d h = d refl
+
+pub on-event {ℓ} : {A : Type ℓ} (P : A → Type 0) {b : A} {f : Event → A} (x : Object) → (eqb (kindOf x) 1 ≡ false → P b) → ((e : Event) → x ≡ event e → P (f e)) → P (onEvent b f x)
+on-event P {b} {f} x = on-event₂ (λ a c. P a) {c = b} {g = f} x
+
+pub on-timer₂ {ℓ κ} : {A : Type ℓ} {B : Type κ} (P : A → B → Type 0) {b : A} {f : Timer → A} {c : B} {g : Timer → B} (x : Object) → (eqb (kindOf x) 2 ≡ false → P b c)
+    → ((t : Timer) → x ≡ timer t → P (f t) (g t)) → P (onTimer b f x) (onTimer c g x)
+on-timer₂ P (mutex m) d h = d refl
+on-timer₂ P (event e) d h = d refl
+on-timer₂ P (timer t) d h = h t refl
+
+pub on-timer {ℓ} : {A : Type ℓ} (P : A → Type 0) {b : A} {f : Timer → A} (x : Object) → (eqb (kindOf x) 2 ≡ false → P b) → ((t : Timer) → x ≡ timer t → P (f t)) → P (onTimer b f x)
+on-timer P {b} {f} x = on-timer₂ (λ a c. P a) {c = b} {g = f} x
 
 -- nothing is said of the others
 pub at-mutex : {Q : Mutex → Type 0} (x : Object) → ((m : Mutex) → x ≡ mutex m → Q m) → onMutex Unit Q x
-at-mutex x h = on-mutex (λ Q. Q) x tt h
+at-mutex x h = on-mutex (λ Q. Q) x (λ n. tt) h
 
 pub at-timer : {Q : Timer → Type 0} (x : Object) → ((t : Timer) → x ≡ timer t → Q t) → onTimer Unit Q x
-at-timer x h = on-timer (λ Q. Q) x tt h
+at-timer x h = on-timer (λ Q. Q) x (λ n. tt) h
 
 pub map-timer : {Q R : Timer → Type 0} → ((t : Timer) → Q t → R t) → (x : Object) → onTimer Unit Q x → onTimer Unit R x
 map-timer {Q} h x q = at-timer x (λ t e. h t (subst (onTimer Unit Q) e q))
@@ -50,19 +62,31 @@ map-timer {Q} h x q = at-timer x (λ t e. h t (subst (onTimer Unit Q) e q))
 pub each-timer : (l : List Object) {Q : Timer → Type 0} → ((k : ℕ) (t : Timer) → objectAt l k ≡ some (timer t) → Q t) → Each keyOf l (onTimer Unit Q)
 each-timer l h k x e = at-timer x (λ t q. h k t (e ∙ ap some q))
 
--- ---- a kind's record found is that object found
+-- a test that only timers pass
+pub timer-passes : (f : Timer → Bool) (x : Object) → onTimer false f x ≡ true → (t : Timer) × (x ≡ timer t) × (f t ≡ true)
+timer-passes f x = on-timer (λ b. b ≡ true → (t : Timer) × (x ≡ timer t) × (f t ≡ true)) x (λ n e. absurd (not-both (sym e))) (λ t q e. (t, q, e))
+
+-- ---- a kind's record found is that object found; none found is no object of the kind
 
 pub mutex-found : (o : Option Object) (m : Mutex) → asMutex o ≡ some m → o ≡ some (mutex m)
 mutex-found none m = λ e. absurd (none-some m e)
-mutex-found (some x) m = on-mutex (λ a. a ≡ some m → some x ≡ some (mutex m)) x (λ e. absurd (none-some m e)) (λ y q e. ap some (q ∙ ap mutex (some-same y m e)))
+mutex-found (some x) m = on-mutex (λ a. a ≡ some m → some x ≡ some (mutex m)) x (λ n e. absurd (none-some m e)) (λ y q e. ap some (q ∙ ap mutex (some-same y m e)))
 
 pub event-found : (o : Option Object) (e : Event) → asEvent o ≡ some e → o ≡ some (event e)
 event-found none m = λ e. absurd (none-some m e)
-event-found (some x) m = on-event (λ a. a ≡ some m → some x ≡ some (event m)) x (λ e. absurd (none-some m e)) (λ y q e. ap some (q ∙ ap event (some-same y m e)))
+event-found (some x) m = on-event (λ a. a ≡ some m → some x ≡ some (event m)) x (λ n e. absurd (none-some m e)) (λ y q e. ap some (q ∙ ap event (some-same y m e)))
 
 pub timer-found : (o : Option Object) (t : Timer) → asTimer o ≡ some t → o ≡ some (timer t)
 timer-found none m = λ e. absurd (none-some m e)
-timer-found (some x) m = on-timer (λ a. a ≡ some m → some x ≡ some (timer m)) x (λ e. absurd (none-some m e)) (λ y q e. ap some (q ∙ ap timer (some-same y m e)))
+timer-found (some x) m = on-timer (λ a. a ≡ some m → some x ≡ some (timer m)) x (λ n e. absurd (none-some m e)) (λ y q e. ap some (q ∙ ap timer (some-same y m e)))
+
+pub mutex-absent : (o : Option Object) → asMutex o ≡ none → ofKind 0 o ≡ none
+mutex-absent none = λ e. refl
+mutex-absent (some x) = on-mutex (λ a. a ≡ none → ofKind 0 (some x) ≡ none) x (λ n e. ap (λ (b : Bool). cond b (some x) none) n) (λ m q e. absurd (none-some m (sym e)))
+
+pub event-absent : (o : Option Object) → asEvent o ≡ none → ofKind 1 o ≡ none
+event-absent none = λ e. refl
+event-absent (some x) = on-event (λ a. a ≡ none → ofKind 1 (some x) ≡ none) x (λ n e. ap (λ (b : Bool). cond b (some x) none) n) (λ m q e. absurd (none-some m (sym e)))
 
 -- a timer by its kind
 pub timer-kind : (x : Object) → kindOf x ≡ 2 → (t : Timer) × (x ≡ timer t)

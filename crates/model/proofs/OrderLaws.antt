@@ -29,7 +29,7 @@ above-mem a (y ∷ ys) h x (inr m) = above-mem a ys (h .1) x m
 
 timers-rise : (l : List Object) → Rising keyOf l → ByAddress (timersOf l)
 timers-rise [] r = tt
-timers-rise (x ∷ l) r = on-timer ByAddress x (timers-rise l (r .1))
+timers-rise (x ∷ l) r = on-timer ByAddress x (λ n. timers-rise l (r .1))
     (λ t q. (λ u m. above-mem (t .address) l (subst (λ (y : Object). Above keyOf (keyOf y) l) q (r .0)) (timer u) (mem-timer l u m), timers-rise l (r .1)))
 
 keep-rise : (g : Timer → Bool) (ts : List Timer) → ByAddress ts → ByAddress (keep g ts)

@@ -83,9 +83,9 @@ unwaited d m e i n a p q =
 pub mutex-mem : (l : List Object) (m : Mutex) → Mem (mutex m) l → Mem m (mutexesOf l)
 mutex-mem [] m a = absurd a
 mutex-mem (x ∷ l) m (inl e) = subst (λ (y : Object). Mem m (mutexesOf (y ∷ l))) e (inl refl)
-mutex-mem (x ∷ l) m (inr a) = on-mutex (Mem m) x (mutex-mem l m a) (λ y q. inr (mutex-mem l m a))
+mutex-mem (x ∷ l) m (inr a) = on-mutex (Mem m) x (λ n. mutex-mem l m a) (λ y q. inr (mutex-mem l m a))
 
 pub event-mem : (l : List Object) (m : Event) → Mem (event m) l → Mem m (eventsOf l)
 event-mem [] m a = absurd a
 event-mem (x ∷ l) m (inl e) = subst (λ (y : Object). Mem m (eventsOf (y ∷ l))) e (inl refl)
-event-mem (x ∷ l) m (inr a) = on-event (Mem m) x (event-mem l m a) (λ y q. inr (event-mem l m a))
+event-mem (x ∷ l) m (inr a) = on-event (Mem m) x (λ n. event-mem l m a) (λ y q. inr (event-mem l m a))
