@@ -15,7 +15,7 @@ use Rattle.images.specs.declared.DpcPhase.{DpcPhase}
 use Rattle.images.specs.declared.DpcPhase.the-variants.{Idle, Queued, Running, Returning}
 use Rattle.images.specs.Place.{overlaps, locationRefusal, timerSize, dpcSize}
 use Rattle.model.specs.Lists.{any, isEmpty, present, given}
-use Rattle.model.specs.State.{State, Dispatcher, Named, Mutex, Event, Object, Policy, unselected, cpu0Dispatch}
+use Rattle.model.specs.State.{mostThreads, State, Dispatcher, Named, Mutex, Event, Object, Policy, unselected, cpu0Dispatch}
 use Rattle.model.specs.Threads.{count, isThread, isLive, hasExited, statusOf}
 use Rattle.model.specs.Waits.{kindOf, objectAt, mutexAt, eventAt, timerAt, timersOf, eventsOf, mutexesOf, listed, exists, waitsOn, isMet, reached}
 use Rattle.model.specs.Dpcs.{dpcAt, phaseAt, isBusy, isQueued, isCaller, isPeriodicOf, workOf, activeDpc}
@@ -28,7 +28,7 @@ notPriority p = cond (ltb p 1) true (ltb 31 p)
 
 -- "threads T 1–256, objects O 0–4096, DPCs D 0–4096"
 unfoldable pub badLimits : ℕ → ℕ → ℕ → Bool
-badLimits t o d = cond (ltb t 1) true (cond (ltb 256 t) true (cond (ltb 4096 o) true (ltb 4096 d)))
+badLimits t o d = cond (ltb t 1) true (cond (ltb mostThreads t) true (cond (ltb 4096 o) true (ltb 4096 d)))
 
 -- "at most 256 + 160 T + 32 (O + D)": here exactly that
 abbrev pub wordsNeeded : ℕ → ℕ → ℕ → ℕ

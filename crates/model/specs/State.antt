@@ -6,6 +6,10 @@ use mathlib.Core.Option.{Option}
 use Rattle.images.specs.declared.Timer.{Timer}
 use Rattle.images.specs.declared.Dpc.{Dpc}
 
+-- the largest number of a thread
+abbrev pub mostThreads : ℕ
+mostThreads = 256
+
 -- "limits (added): threads T 1–256, objects O 0–4096, DPCs D 0–4096"
 pub record Limits : Type 0 where
   pub threads : ℕ

@@ -12,7 +12,7 @@ use Rattle.images.specs.declared.DpcPhase.the-variants.{Queued}
 use Rattle.images.specs.Place.{locationRefusal, timerSize, dpcSize}
 use Rattle.model.specs.Lists.{Mem, Distinct, member, countOf, present}
 use Rattle.model.specs.Table.{find, Rising}
-use Rattle.model.specs.State.{State, Limits, Dispatcher, Thread, Status, running, ready, waiting, exited, Wait, Named, Object, Counters, Policy, unselected, cpu0Dispatch}
+use Rattle.model.specs.State.{mostThreads, State, Limits, Dispatcher, Thread, Status, running, ready, waiting, exited, Wait, Named, Object, Counters, Policy, unselected, cpu0Dispatch}
 use Rattle.model.specs.Threads.{count, threadAt, statusOf, priorityOf, isReady, isWaiting, isRunning, isLive, waitOf}
 use Rattle.model.specs.Waits.{keyOf, onMutex, onTimer, exists, canWake, reached}
 use Rattle.model.specs.Dpcs.{addressOf, dpcAt, phaseAt, isQueued, isActive, isReturning, isFrom, workOf}
@@ -32,10 +32,10 @@ module _ {A : Type 0} (key : A → ℕ) where
 
 -- ---- "limits .. pass their checks"
 
--- threads 1 to 256, objects and DPCs at most 4096
+-- threads 1 to the largest number, objects and DPCs at most 4096
 pub record LimitsValid (l : Limits) : Type 0 where
   pub some-thread : 1 ≤ l .threads
-  pub threads : l .threads ≤ 256
+  pub threads : l .threads ≤ mostThreads
   pub objects : l .objects ≤ 4096
   pub dpcs : l .dpcs ≤ 4096
 
