@@ -19,7 +19,7 @@ use Rattle.images.specs.declared.DpcPhase.the-variants.{Idle, Queued, Running, 
 use Rattle.model.specs.Lists.{Mem, any, keep, isEmpty, given}
 use Rattle.model.specs.Table.{Rising}
 use Rattle.model.specs.State.{State, Dispatcher, Dpcs, Thread, Status, running, ready, waiting, exited, Wait, WaitResult, satisfied, timeout, Named, Mutex, Event, Object, mutex, event, timer, Policy, unselected, cpu0Dispatch}
-use Rattle.model.specs.Threads.{threadAt, threadOf, statusOf, priorityOf, isReady, waitOf, withThread, withObjects, withSequence, withStatus, withPriority, withResult, firstThread, newThread, readyAgain, becomes, created, prioritized, yielded, terminated, woken, blocked, next, ran, numbersOf}
+use Rattle.model.specs.Threads.{threadAt, threadOf, statusOf, priorityOf, isReady, waitOf, withThread, withObjects, withSequence, withStatus, withPriority, withResult, firstThread, newThread, readyAgain, waitingThread, becomes, created, prioritized, yielded, terminated, woken, blocked, next, ran, numbersOf}
 use Rattle.model.specs.Waits.{keyOf, objectAt, timerAt, mutexAt, eventAt, putObject, ownedBy, signaledAs, isAvailable, firstAvailable, isMet, index, take, takeEvery, takes, takenBy, namedIn, noObject, canWake, wakeOne, pass, wake, reached, isOverdue, timeOutEach, timeOut}
 use Rattle.model.specs.Dpcs.{addressOf, dpcAt, phaseAt, putDpc, rephased, inPhase, isBusy, isQueued, workOf, newWork, accepted, duplicated, withdrawn, started, returned, restored}
 use Rattle.model.specs.Timers.{newTimer, armed, cancelled, retimed, expired, isPeriodic, nextDue, dueTimers, Expired, expireOne, expireEach, dpcsAfter, workQueued, originOf}
@@ -263,7 +263,7 @@ module _ (s : State) (v : Valid s) (f : Numbers s) where
   blocks-fits : (ns : List Named) (all : Bool) (deadline : Option ℕ) → length ns ≤ 64 → Numbers (blocks s ns all deadline .state)
   unfolding blocks blocked becomes
   blocks-fits ns all deadline h = with-dispatcher (blocked d₀ ns all deadline)
-      (fit-becomes (withSequence d₀ (d₀ .sequence + 1)) (d₀ .current) (record { priority = priorityOf d₀ (d₀ .current); status = waiting (record { objects = ns; all = all; deadline = deadline; sequence = d₀ .sequence }); result = none }) all-fit ((tt, tt), h)) (f .timers)
+      (fit-becomes (withSequence d₀ (d₀ .sequence + 1)) (d₀ .current) (waitingThread (threadOf d₀ (d₀ .current)) (record { objects = ns; all = all; deadline = deadline; sequence = d₀ .sequence })) all-fit ((tt, tt), h)) (f .timers)
 
   waited-fits : (l : List ℕ) (all : Bool) (deadline : Option ℕ) (irql : ℕ) → waitRefusal s l all deadline irql ≡ 0 → Numbers (waited s (pairs l) all deadline .state)
   unfolding waitRefusal badList waited granted
