@@ -115,71 +115,71 @@ withCounters s c = withDpcs s (record { table = s .dpcs .table; queue = s .dpcs 
 -- ---- each number of the header
 
 module _ (w : List ℕ) (s : State) (holder : ℕ → ℕ) (active : ℕ) (a : Agreeing w s holder active) where
-  pub sim-current : (n : ℕ) → Agreeing (set w 6 n) (withDispatcher s (withCurrent (s .dispatcher) n)) holder active
-  sim-current n = let r = set-number w s holder active a 6 n (number 6 (omega arith) (λ e. omega arith)) in
-      agree-from (set w 6 n) (withDispatcher s (withCurrent (s .dispatcher) n)) holder active (r .0) (r .1) (a .shape)
+  pub sim-current : (n : ℕ) → Agreeing (set w at.current n) (withDispatcher s (withCurrent (s .dispatcher) n)) holder active
+  sim-current n = let r = set-number w s holder active a at.current n (number at.current (omega arith) (λ e. omega arith)) in
+      agree-from (set w at.current n) (withDispatcher s (withCurrent (s .dispatcher) n)) holder active (r .0) (r .1) (a .shape)
 
-  pub sim-sequence : (n : ℕ) → Agreeing (set w 7 n) (withDispatcher s (withSequence (s .dispatcher) n)) holder active
-  sim-sequence n = let r = set-number w s holder active a 7 n (number 7 (omega arith) (λ e. omega arith)) in
-      agree-from (set w 7 n) (withDispatcher s (withSequence (s .dispatcher) n)) holder active (r .0) (r .1) (a .shape)
+  pub sim-sequence : (n : ℕ) → Agreeing (set w at.sequence n) (withDispatcher s (withSequence (s .dispatcher) n)) holder active
+  sim-sequence n = let r = set-number w s holder active a at.sequence n (number at.sequence (omega arith) (λ e. omega arith)) in
+      agree-from (set w at.sequence n) (withDispatcher s (withSequence (s .dispatcher) n)) holder active (r .0) (r .1) (a .shape)
 
-  pub sim-now : (n : ℕ) → Agreeing (set w 8 n) (withNow s n) holder active
-  sim-now n = let r = set-number w s holder active a 8 n (number 8 (omega arith) (λ e. omega arith)) in agree-from (set w 8 n) (withNow s n) holder active (r .0) (r .1) (a .shape)
+  pub sim-now : (n : ℕ) → Agreeing (set w at.now n) (withNow s n) holder active
+  sim-now n = let r = set-number w s holder active a at.now n (number at.now (omega arith) (λ e. omega arith)) in agree-from (set w at.now n) (withNow s n) holder active (r .0) (r .1) (a .shape)
 
-  pub sim-timers-made : (n : ℕ) → Agreeing (set w 19 n) (withTimersMade s n) holder active
-  sim-timers-made n = let r = set-number w s holder active a 19 n (number 19 (omega arith) (λ e. omega arith)) in agree-from (set w 19 n) (withTimersMade s n) holder active (r .0) (r .1) (a .shape)
+  pub sim-timers-made : (n : ℕ) → Agreeing (set w at.timerInitializations n) (withTimersMade s n) holder active
+  sim-timers-made n = let r = set-number w s holder active a at.timerInitializations n (number at.timerInitializations (omega arith) (λ e. omega arith)) in agree-from (set w at.timerInitializations n) (withTimersMade s n) holder active (r .0) (r .1) (a .shape)
 
-  pub sim-dpcs-made : (n : ℕ) → Agreeing (set w 20 n) (withDpcsMade s n) holder active
-  sim-dpcs-made n = let r = set-number w s holder active a 20 n (number 20 (omega arith) (λ e. omega arith)) in agree-from (set w 20 n) (withDpcsMade s n) holder active (r .0) (r .1) (a .shape)
+  pub sim-dpcs-made : (n : ℕ) → Agreeing (set w at.dpcInitializations n) (withDpcsMade s n) holder active
+  sim-dpcs-made n = let r = set-number w s holder active a at.dpcInitializations n (number at.dpcInitializations (omega arith) (λ e. omega arith)) in agree-from (set w at.dpcInitializations n) (withDpcsMade s n) holder active (r .0) (r .1) (a .shape)
 
-  pub sim-active : (n : ℕ) → Agreeing (set w 25 n) s holder n
+  pub sim-active : (n : ℕ) → Agreeing (set w at.active n) s holder n
   sim-active n =
-      let r = set-number w s holder active a 25 n (record { small = omega arith; no-ready = λ e. omega arith; no-end = λ x y. omega arith }) in
-      agree-from (set w 25 n) s holder n (r .0) (r .1) (a .shape)
+      let r = set-number w s holder active a at.active n (record { small = omega arith; no-ready = λ e. omega arith; no-end = λ x y. omega arith }) in
+      agree-from (set w at.active n) s holder n (r .0) (r .1) (a .shape)
 
   -- ---- the policy, which is three numbers
 
-  pub sim-policy : (first second : ℕ) → Agreeing (set (set (set w 10 1) 11 first) 12 second) (configured s first second) holder active
+  pub sim-policy : (first second : ℕ) → Agreeing (set (set (set w at.policy 1) 11 first) 12 second) (configured s first second) holder active
   unfolding configured
   sim-policy first second =
       agree-from w₃ (configured s first second) holder active
       (row-set w₂ 0 (set (set (headerOf s active) 10 (some 1)) 11 (some first)) 12 second (omega (arith, long, len₁, len₂))
       (row-set w₁ 0 (set (headerOf s active) 10 (some 1)) 11 first (omega (arith, long, len₁)) (row-set w 0 (headerOf s active) 10 1 (omega (arith, long)) (a .numbers))))
-      (rest-header w s holder active a w₃ (length-set w₂ 12 second ∙ len₂ ∙ len₁) (λ j r.
-      set-outside (λ i. Numbers i → ⊥) w₂ 12 second (λ q. q (number 12 (omega arith) (λ e. omega arith))) j r
-      ∙ set-outside (λ i. Numbers i → ⊥) w₁ 11 first (λ q. q (number 11 (omega arith) (λ e. omega arith))) j r
-      ∙ set-outside (λ i. Numbers i → ⊥) w 10 1 (λ q. q (number 10 (omega arith) (λ e. omega arith))) j r))
+      (rest-header w s holder active a w₃ (length-set w₂ at.timerArgument2 second ∙ len₂ ∙ len₁) (λ j r.
+      set-outside (λ i. Numbers i → ⊥) w₂ 12 second (λ q. q (number at.timerArgument2 (omega arith) (λ e. omega arith))) j r
+      ∙ set-outside (λ i. Numbers i → ⊥) w₁ 11 first (λ q. q (number at.timerArgument (omega arith) (λ e. omega arith))) j r
+      ∙ set-outside (λ i. Numbers i → ⊥) w 10 1 (λ q. q (number at.policy (omega arith) (λ e. omega arith))) j r))
       (a .shape)
     where
       w₁ : List ℕ
-      w₁ = set w 10 1
+      w₁ = set w at.policy 1
 
       w₂ : List ℕ
-      w₂ = set w₁ 11 first
+      w₂ = set w₁ at.timerArgument first
 
       w₃ : List ℕ
-      w₃ = set w₂ 12 second
+      w₃ = set w₂ at.timerArgument2 second
 
       len₁ : length w₁ ≡ length w
-      len₁ = length-set w 10 1
+      len₁ = length-set w at.policy 1
 
       len₂ : length w₂ ≡ length w₁
-      len₂ = length-set w₁ 11 first
+      len₂ = length-set w₁ at.timerArgument first
 
       long : at.headerSize ≤ length w
       long = omega (arith, a .enough)
 
   -- ---- the six counts, each one more
 
-  pub sim-accepted : Agreeing (set w 13 (s .dpcs .counters .accepted + 1)) (withCounters s (oneAccepted (s .dpcs .counters))) holder active
+  pub sim-accepted : Agreeing (set w at.accepted (s .dpcs .counters .accepted + 1)) (withCounters s (oneAccepted (s .dpcs .counters))) holder active
   sim-accepted =
-      let r = set-number w s holder active a 13 (s .dpcs .counters .accepted + 1) (number 13 (omega arith) (λ e. omega arith)) in
-      agree-from (set w 13 (s .dpcs .counters .accepted + 1)) (withCounters s (oneAccepted (s .dpcs .counters))) holder active (r .0) (r .1) (a .shape)
+      let r = set-number w s holder active a at.accepted (s .dpcs .counters .accepted + 1) (number at.accepted (omega arith) (λ e. omega arith)) in
+      agree-from (set w at.accepted (s .dpcs .counters .accepted + 1)) (withCounters s (oneAccepted (s .dpcs .counters))) holder active (r .0) (r .1) (a .shape)
 
-  pub sim-duplicate : s .dpcs .counters .duplicates + 1 ≤ most → Agreeing (set w 14 (s .dpcs .counters .duplicates + 1)) (withCounters s (oneDuplicate (s .dpcs .counters))) holder active
+  pub sim-duplicate : s .dpcs .counters .duplicates + 1 ≤ most → Agreeing (set w at.duplicates (s .dpcs .counters .duplicates + 1)) (withCounters s (oneDuplicate (s .dpcs .counters))) holder active
   sim-duplicate h =
-      let r = set-number w s holder active a 14 (s .dpcs .counters .duplicates + 1) (number 14 (omega arith) (λ e. omega arith)) in
-      agree-from (set w 14 (s .dpcs .counters .duplicates + 1)) (withCounters s (oneDuplicate (s .dpcs .counters))) holder active (r .0) (r .1)
+      let r = set-number w s holder active a at.duplicates (s .dpcs .counters .duplicates + 1) (number at.duplicates (omega arith) (λ e. omega arith)) in
+      agree-from (set w at.duplicates (s .dpcs .counters .duplicates + 1)) (withCounters s (oneDuplicate (s .dpcs .counters))) holder active (r .0) (r .1)
       (record {
         sizes = a .shape .sizes;
         fit = a .shape .fit;
@@ -191,22 +191,22 @@ module _ (w : List ℕ) (s : State) (holder : ℕ → ℕ) (active : ℕ) (a : A
         counted = h;
       })
 
-  pub sim-removed : Agreeing (set w 15 (s .dpcs .counters .removed + 1)) (withCounters s (oneRemoved (s .dpcs .counters))) holder active
+  pub sim-removed : Agreeing (set w at.removed (s .dpcs .counters .removed + 1)) (withCounters s (oneRemoved (s .dpcs .counters))) holder active
   sim-removed =
-      let r = set-number w s holder active a 15 (s .dpcs .counters .removed + 1) (number 15 (omega arith) (λ e. omega arith)) in
-      agree-from (set w 15 (s .dpcs .counters .removed + 1)) (withCounters s (oneRemoved (s .dpcs .counters))) holder active (r .0) (r .1) (a .shape)
+      let r = set-number w s holder active a at.removed (s .dpcs .counters .removed + 1) (number at.removed (omega arith) (λ e. omega arith)) in
+      agree-from (set w at.removed (s .dpcs .counters .removed + 1)) (withCounters s (oneRemoved (s .dpcs .counters))) holder active (r .0) (r .1) (a .shape)
 
-  pub sim-started : Agreeing (set w 16 (s .dpcs .counters .started + 1)) (withCounters s (oneStarted (s .dpcs .counters))) holder active
+  pub sim-started : Agreeing (set w at.started (s .dpcs .counters .started + 1)) (withCounters s (oneStarted (s .dpcs .counters))) holder active
   sim-started =
-      let r = set-number w s holder active a 16 (s .dpcs .counters .started + 1) (number 16 (omega arith) (λ e. omega arith)) in
-      agree-from (set w 16 (s .dpcs .counters .started + 1)) (withCounters s (oneStarted (s .dpcs .counters))) holder active (r .0) (r .1) (a .shape)
+      let r = set-number w s holder active a at.started (s .dpcs .counters .started + 1) (number at.started (omega arith) (λ e. omega arith)) in
+      agree-from (set w at.started (s .dpcs .counters .started + 1)) (withCounters s (oneStarted (s .dpcs .counters))) holder active (r .0) (r .1) (a .shape)
 
-  pub sim-returned : Agreeing (set w 17 (s .dpcs .counters .returned + 1)) (withCounters s (oneReturned (s .dpcs .counters))) holder active
+  pub sim-returned : Agreeing (set w at.returned (s .dpcs .counters .returned + 1)) (withCounters s (oneReturned (s .dpcs .counters))) holder active
   sim-returned =
-      let r = set-number w s holder active a 17 (s .dpcs .counters .returned + 1) (number 17 (omega arith) (λ e. omega arith)) in
-      agree-from (set w 17 (s .dpcs .counters .returned + 1)) (withCounters s (oneReturned (s .dpcs .counters))) holder active (r .0) (r .1) (a .shape)
+      let r = set-number w s holder active a at.returned (s .dpcs .counters .returned + 1) (number at.returned (omega arith) (λ e. omega arith)) in
+      agree-from (set w at.returned (s .dpcs .counters .returned + 1)) (withCounters s (oneReturned (s .dpcs .counters))) holder active (r .0) (r .1) (a .shape)
 
-  pub sim-restored : Agreeing (set w 18 (s .dpcs .counters .restored + 1)) (withCounters s (oneRestored (s .dpcs .counters))) holder active
+  pub sim-restored : Agreeing (set w at.restored (s .dpcs .counters .restored + 1)) (withCounters s (oneRestored (s .dpcs .counters))) holder active
   sim-restored =
-      let r = set-number w s holder active a 18 (s .dpcs .counters .restored + 1) (number 18 (omega arith) (λ e. omega arith)) in
-      agree-from (set w 18 (s .dpcs .counters .restored + 1)) (withCounters s (oneRestored (s .dpcs .counters))) holder active (r .0) (r .1) (a .shape)
+      let r = set-number w s holder active a at.restored (s .dpcs .counters .restored + 1) (number at.restored (omega arith) (λ e. omega arith)) in
+      agree-from (set w at.restored (s .dpcs .counters .restored + 1)) (withCounters s (oneRestored (s .dpcs .counters))) holder active (r .0) (r .1) (a .shape)

@@ -7,6 +7,7 @@ use borrow.Author.Tests.{eq-eqb}
 use lib.Dec.{eqb}
 use lib.ListN.{set, length}
 use mathlib.Core.Bool.{Bool, cond}
+use Rattle.words.specs.Layout as at
 use Rattle.threads.specs.declared.Thread as stored
 use Rattle.threads.specs.Thread as words
 use Rattle.chains.specs.Ready.{placedLast}
@@ -90,9 +91,9 @@ module _ (w : List ℕ) (s : State) (holder : ℕ → ℕ) (active : ℕ) (a : A
       → Agreeing (yieldedWords w (s .dispatcher .current)) (withDispatcher s (yielded (s .dispatcher))) holder active
   unfolding yieldedWords yielded
   agree-yield one le runs unplaced unblocked =
-      subst (λ (x : stored.Thread). Agreeing (madeReady (set w 6 0) id (x .result)) (withDispatcher s (yielded (s .dispatcher))) holder active) (sym (thread-is w s holder active a id one le))
-      (subst (λ (d : Dispatcher). Agreeing (madeReady (set w 6 0) id (resultNumber result)) (withDispatcher s d) holder active) (sym same)
-      (sim-ready (set w 6 0) (withDispatcher s (withCurrent (s .dispatcher) 0)) holder active (sim-current w s holder active a 0) id result one le (ap exitStatus runs) unplaced))
+      subst (λ (x : stored.Thread). Agreeing (madeReady (set w at.current 0) id (x .result)) (withDispatcher s (yielded (s .dispatcher))) holder active) (sym (thread-is w s holder active a id one le))
+      (subst (λ (d : Dispatcher). Agreeing (madeReady (set w at.current 0) id (resultNumber result)) (withDispatcher s d) holder active) (sym same)
+      (sim-ready (set w at.current 0) (withDispatcher s (withCurrent (s .dispatcher) 0)) holder active (sim-current w s holder active a 0) id result one le (ap exitStatus runs) unplaced))
     where
       same : yielded (s .dispatcher) ≡ withPlaced (withThread (withCurrent (s .dispatcher) 0) id (readyAgain (threadOf (s .dispatcher) id) result)) (s .dispatcher .placed ++ (id ∷ []))
       same =

@@ -36,7 +36,7 @@ thread-stores t = (
 
 pub put-thread : (w : List ℕ) (id : ℕ) (t : stored.Thread) → id ≤ at.mostThreads → putThread w id t ≡ written w (at.threadFrom id) (threadStores t)
 unfolding putThread
-put-thread w id t h = ap (λ (at : ℕ). written w at (threadStores t)) (thread-place id h)
+put-thread w id t h = ap (λ (from : ℕ). written w from (threadStores t)) (thread-place id h)
 
 -- ---- a wait
 
@@ -50,7 +50,7 @@ placeStores (suc k) places i = store i (getD places i 0) ∷ placeStores k place
 
 pub put-terms : (w : List ℕ) (id : ℕ) (x : stored-wait.Wait) → id ≤ at.mostThreads → putTerms w id x ≡ written w (at.threadFrom id) (termStores x)
 unfolding putTerms
-put-terms w id x h = ap (λ (at : ℕ). written w at (termStores x)) (thread-place id h)
+put-terms w id x h = ap (λ (from : ℕ). written w from (termStores x)) (thread-place id h)
 
 pub put-places : (k : ℕ) (w : List ℕ) (place : ℕ) (places : List ℕ) (i : ℕ) → putPlaces k w place places i ≡ written w place (placeStores k places i)
 unfolding putPlaces
@@ -63,7 +63,7 @@ unfolding putWait placesAt
 put-wait w id x h =
     put-places (2 * x .count) (putTerms w id x) (threadAt id + at.waitPlaces) (x .places) 0
     ∙ ap (λ (v : List ℕ). written v (threadAt id + at.waitPlaces) (placeStores (2 * x .count) (x .places) 0)) (put-terms w id x h)
-    ∙ ap (λ (at : ℕ). written (written w (at.threadFrom id) (termStores x)) at (placeStores (2 * x .count) (x .places) 0))
+    ∙ ap (λ (from : ℕ). written (written w (at.threadFrom id) (termStores x)) from (placeStores (2 * x .count) (x .places) 0))
     (let e : threadAt id + at.waitPlaces ≡ at.threadWord at.waitPlaces id = omega (arith, thread-place id h) in e)
 
 pub place-stores : (k : ℕ) (places : List ℕ) (i n : ℕ) → i + k ≤ n → In (λ j. j < n) (placeStores k places i)

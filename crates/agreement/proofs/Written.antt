@@ -29,15 +29,15 @@ set-says [] k v n e = absurd (none-some n e)
 set-says (x ∷ xs) zero v n e = some-same v n e
 set-says (x ∷ xs) (suc k) v n e = set-says xs k v n e
 
-pub row-one : (w w′ : List ℕ) (at : ℕ) (row : List (Option ℕ)) (k v : ℕ) → Row w at row → ((j : ℕ) → Of at row j → (j ≡ at + k → ⊥) → getD w′ j 0 ≡ getD w j 0) → getD w′ (at + k) 0 ≡ v
-    → Row w′ at (set row k (some v))
-row-one w w′ at row k v a same own i n e = go (ℕ-discrete i k)
+pub row-one : (w w′ : List ℕ) (from : ℕ) (row : List (Option ℕ)) (k v : ℕ) → Row w from row → ((j : ℕ) → Of from row j → (j ≡ from + k → ⊥) → getD w′ j 0 ≡ getD w j 0) → getD w′ (from + k) 0 ≡ v
+    → Row w′ from (set row k (some v))
+row-one w w′ from row k v a same own i n e = go (ℕ-discrete i k)
   where
-    go : Dec (i ≡ k) → getD w′ (at + i) 0 ≡ n
-    go (yes q) = ap (λ (m : ℕ). getD w′ (at + m) 0) q ∙ own ∙ set-says row k v n (subst (λ (m : ℕ). getD (set row k (some v)) m none ≡ some n) q e)
+    go : Dec (i ≡ k) → getD w′ (from + i) 0 ≡ n
+    go (yes q) = ap (λ (m : ℕ). getD w′ (from + m) 0) q ∙ own ∙ set-says row k v n (subst (λ (m : ℕ). getD (set row k (some v)) m none ≡ some n) q e)
     go (no q) =
         let old : getD row i none ≡ some n = sym (getD-set-other row k i (some v) none q) ∙ e in
-        same (at + i) (record { word = i; holds = n; says = old; here = refl }) (λ z. q (omega arith)) ∙ a i n old
+        same (from + i) (record { word = i; holds = n; says = old; here = refl }) (λ z. q (omega arith)) ∙ a i n old
 
 module _ (w : List ℕ) (s : State) (holder : ℕ → ℕ) (active : ℕ) (a : Agreeing w s holder active) where
   -- neither the count nor a record of an object

@@ -80,8 +80,8 @@ module _ (s : State) (time : ℕ) where
     abbrev m₁ : State
     m₁ = withDpcs m (dpcsAfter (s .policy) time (e .dpcs) t)
 
-    at : objectAt (e .objects) (t .address) ≡ some (timer t)
-    at = find-nth keyOf (e .objects) (v .rising) i (timer t) n
+    there : objectAt (e .objects) (t .address) ≡ some (timer t)
+    there = find-nth keyOf (e .objects) (v .rising) i (timer t) n
 
     place-is : entryAt (objectsFrom (s .limits)) i ≡ objectsFrom (s .limits) + 32 * below keyOf (t .address) (e .objects)
     place-is =
@@ -89,7 +89,7 @@ module _ (s : State) (time : ℕ) where
         ∙ ap (λ (k : ℕ). objectsFrom (s .limits) + 32 * k) (sym (below-nth keyOf (e .objects) (v .rising) i (timer t) n))
 
     known : (t .dpc ≡ 0 → ⊥) → present (dpcAt (e .dpcs .table) (t .dpc)) ≡ true
-    known has = v .linked .served (t .address) (timer t) at ins has .0
+    known has = v .linked .served (t .address) (timer t) there ins has .0
 
     worked : Agreeing (workQueued w (entryAt (objectsFrom (s .limits)) i) time) m₁ (holderOf (e .objects)) (activeAddress (dpcsAfter (s .policy) time (e .dpcs) t .table))
     worked =
@@ -101,7 +101,7 @@ module _ (s : State) (time : ℕ) where
     unfolding expiredOne expireOne
     sim-expired-one =
         subst (λ (p : ℕ). Agree (settled (set (workQueued w (entryAt (objectsFrom (s .limits)) i) time) (p + at.signaled) 1) p time) (inMidst s (expireOne (s .policy) time e t))) (sym place-is)
-        (sim-settled (workQueued w (entryAt (objectsFrom (s .limits)) i) time) m₁ (activeAddress (dpcsAfter (s .policy) time (e .dpcs) t .table)) worked t at ins
+        (sim-settled (workQueued w (entryAt (objectsFrom (s .limits)) i) time) m₁ (activeAddress (dpcsAfter (s .policy) time (e .dpcs) t .table)) worked t there ins
         (λ has. after-present (s .policy) time (e .dpcs) t (v .queueing .rising) known (t .dpc) ∙ known has) (v .linked .alone) time (horizon-passed time (e .dpcs) t (s .policy) r))
 
   -- ---- all of a list

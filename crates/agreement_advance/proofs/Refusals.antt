@@ -55,8 +55,8 @@ module _ (w : List ℕ) (s : State) (holder : ℕ → ℕ) (active : ℕ) (a : A
     unfolding countedAfter accepted duplicated
     counted first second has d e p f r = start ∙ go p f r
       where
-        at : ℕ
-        at = placeAt w (numberOf w (t .dpc))
+        dpc-place : ℕ
+        dpc-place = placeAt w (numberOf w (t .dpc))
 
         branches : ℕ → Counts
         branches n = cond (eqb n 0) (counts ((q .counters .accepted + 1) % 2 ^ 64) (q .counters .duplicates)) (counts (q .counters .accepted) ((q .counters .duplicates + 1) % 2 ^ 64))
@@ -64,7 +64,7 @@ module _ (w : List ℕ) (s : State) (holder : ℕ → ℕ) (active : ℕ) (a : A
         start : countedAfter w place (countsOf q) ≡ branches (phaseNumber p)
         start =
             ap (λ (n : ℕ). cond (eqb n 0) (countsOf q) (branches (getD w (placeAt w (numberOf w n) + at.phase) 0))) (row 8 (t .dpc) refl)
-            ∙ ap (λ (b : Bool). cond b (countsOf q) (branches (getD w (at + 1) 0))) (ne-eqb (t .dpc) 0 has)
+            ∙ ap (λ (b : Bool). cond b (countsOf q) (branches (getD w (dpc-place + at.phase) 0))) (ne-eqb (t .dpc) 0 has)
             ∙ ap branches (dpc-row-at w s holder active a (t .dpc) d e 1 (phaseNumber (d .phase)) refl ∙ ap phaseNumber f)
 
         go : (p : DpcPhase) → d .phase ≡ p → queueRefusal q t p ≡ 0 → branches (phaseNumber p) ≡ countsOf (workQueued q first second time t p)

@@ -42,17 +42,17 @@ unfolding dpcsAfter accepted duplicated
 active-after unselected time q t r known = refl
 active-after (cpu0Dispatch first second) time q t r known = go (eqb (t .dpc) 0) refl
   where
-    at : (d : Dpc) → dpcAt (q .table) (t .dpc) ≡ some d → (p : DpcPhase) → d .phase ≡ p → activeAddress (workQueued q first second time t p .table) ≡ activeAddress (q .table)
-    at d e Idle f = active-same (q .table) r (t .dpc) d e (Queued (newWork q first second (originOf time t))) (ap isActive (sym f))
-    at d e (Queued x) f = refl
-    at d e (Running x) f = refl
-    at d e (Returning x) f = refl
+    by-phase : (d : Dpc) → dpcAt (q .table) (t .dpc) ≡ some d → (p : DpcPhase) → d .phase ≡ p → activeAddress (workQueued q first second time t p .table) ≡ activeAddress (q .table)
+    by-phase d e Idle f = active-same (q .table) r (t .dpc) d e (Queued (newWork q first second (originOf time t))) (ap isActive (sym f))
+    by-phase d e (Queued x) f = refl
+    by-phase d e (Running x) f = refl
+    by-phase d e (Returning x) f = refl
 
     go : (b : Bool) → eqb (t .dpc) 0 ≡ b → activeAddress (cond b q (workQueued q first second time t (phaseAt (q .table) (t .dpc))) .table) ≡ activeAddress (q .table)
     go true z = refl
     go false z =
         let x = present-some (q .table) (t .dpc) (known (eqb-false (t .dpc) 0 z)) in
-        at (x .0) (x .1) (phaseAt (q .table) (t .dpc)) (sym (phase-found (q .table) (t .dpc) (x .0) (x .1)))
+        by-phase (x .0) (x .1) (phaseAt (q .table) (t .dpc)) (sym (phase-found (q .table) (t .dpc) (x .0) (x .1)))
 
 module _ (w : List ℕ) (s : State) (holder : ℕ → ℕ) (active : ℕ) (a : Agreeing w s holder active) (time place : ℕ) (t : Timer) (row : Row w place (timerRow t)) where
   -- the origin as the words tell it
@@ -77,7 +77,7 @@ module _ (w : List ℕ) (s : State) (holder : ℕ → ℕ) (active : ℕ) (a : A
         (sym (dpc-row-at w s holder active a (t .dpc) d e 1 (phaseNumber (d .phase)) refl ∙ ap phaseNumber f)) (go p f r)
       where
         branches : ℕ → List ℕ
-        branches n = cond (eqb n 0) (queue.accepted w (numberOf w (t .dpc)) (getD w at.timerArgument 0) (getD w at.timerArgument2 0) (words.originOf w place time)) (queue.raised w 14)
+        branches n = cond (eqb n 0) (queue.accepted w (numberOf w (t .dpc)) (getD w at.timerArgument 0) (getD w at.timerArgument2 0) (words.originOf w place time)) (queue.raised w at.duplicates)
 
         go : (p : DpcPhase) → d .phase ≡ p → queueRefusal (s .dpcs) t p ≡ 0 → Agreeing (branches (phaseNumber p)) (withDpcs s (workQueued (s .dpcs) first second time t p)) holder active
         go Idle f r =

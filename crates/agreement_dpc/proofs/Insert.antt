@@ -109,20 +109,20 @@ module _ (w : List ℕ) (s : State) (a : Agree w s) (v : Valid s) (k : ℕ) wher
         (sim-accepted-work w s holder active a k d e n first second origin.Caller refl
         (not-queued (s .limits .dpcs) (s .dpcs) (v .queueing) k (ap isQueued (phase-found (s .dpcs .table) k d e) ∙ idle)) (few-accepted (s .limits .dpcs) (s .dpcs) (v .queueing)))
 
-    duplicate : leb most (s .dpcs .counters .duplicates) ≡ false → Agree (queue.raised w 14) (withDpcs s (duplicated (s .dpcs)))
+    duplicate : leb most (s .dpcs .counters .duplicates) ≡ false → Agree (queue.raised w at.duplicates) (withDpcs s (duplicated (s .dpcs)))
     unfolding duplicated
     duplicate h = sim-duplicated w s holder active a (leb-false most (s .dpcs .counters .duplicates) h)
 
     inserted : (p : DpcPhase) → d .phase ≡ p → insertInPhase s p ≡ 0
-        → Plainly (cond (queue.queued w n) (code.outcome (answer.Flag false) (queue.raised w 14)) (code.outcome (answer.Flag true) (queue.accepted w n first second words.callerOrigin)))
+        → Plainly (cond (queue.queued w n) (code.outcome (answer.Flag false) (queue.raised w at.duplicates)) (code.outcome (answer.Flag true) (queue.accepted w n first second words.callerOrigin)))
         (cond (isQueued p) (gives (Flag false) (withDpcs s (duplicated (s .dpcs)))) (gives (Flag true) (withDpcs s (accepted (s .dpcs) k first second origin.Caller))))
     unfolding queue.queued
     inserted Idle q z =
-        subst (λ (m : ℕ). Plainly (cond (eqb m 1) (code.outcome (answer.Flag false) (queue.raised w 14)) (code.outcome (answer.Flag true) (queue.accepted w n first second words.callerOrigin)))
+        subst (λ (m : ℕ). Plainly (cond (eqb m 1) (code.outcome (answer.Flag false) (queue.raised w at.duplicates)) (code.outcome (answer.Flag true) (queue.accepted w n first second words.callerOrigin)))
         (gives (Flag true) (withDpcs s (accepted (s .dpcs) k first second origin.Caller)))) (sym (phase-word d e ∙ ap phaseNumber q))
         (record { answers = refl; agree = work-accepted (ap isQueued q) (ap isActive q) })
     inserted (Queued x) q z =
-        subst (λ (m : ℕ). Plainly (cond (eqb m 1) (code.outcome (answer.Flag false) (queue.raised w 14)) (code.outcome (answer.Flag true) (queue.accepted w n first second words.callerOrigin)))
+        subst (λ (m : ℕ). Plainly (cond (eqb m 1) (code.outcome (answer.Flag false) (queue.raised w at.duplicates)) (code.outcome (answer.Flag true) (queue.accepted w n first second words.callerOrigin)))
         (gives (Flag false) (withDpcs s (duplicated (s .dpcs))))) (sym (phase-word d e ∙ ap phaseNumber q))
         (record { answers = refl; agree = duplicate (passes (leb most (s .dpcs .counters .duplicates)) 23 0 (holds (isCaller (x .origin)) 20 (cond (leb most (s .dpcs .counters .duplicates)) 24 0) z .1) .0) })
     inserted (Running x) q z = absurd (omega arith)
@@ -132,10 +132,10 @@ module _ (w : List ℕ) (s : State) (a : Agree w s) (v : Valid s) (k : ℕ) wher
   unfolding words.queueInserted effect refusal insertRefusal dpcInserted
   agree-insert first second =
       plainly-unless w s a (call.InsertQueueDpc k first second) (words.insertRefusal w k)
-      (cond (queue.queued w n) (code.outcome (answer.Flag false) (queue.raised w 14)) (code.outcome (answer.Flag true) (queue.accepted w n first second words.callerOrigin))) (refusal-is first second) done
+      (cond (queue.queued w n) (code.outcome (answer.Flag false) (queue.raised w at.duplicates)) (code.outcome (answer.Flag true) (queue.accepted w n first second words.callerOrigin))) (refusal-is first second) done
     where
       done : insertRefusal s k ≡ 0
-          → Plainly (cond (queue.queued w n) (code.outcome (answer.Flag false) (queue.raised w 14)) (code.outcome (answer.Flag true) (queue.accepted w n first second words.callerOrigin))) (dpcInserted s k first second)
+          → Plainly (cond (queue.queued w n) (code.outcome (answer.Flag false) (queue.raised w at.duplicates)) (code.outcome (answer.Flag true) (queue.accepted w n first second words.callerOrigin))) (dpcInserted s k first second)
       done z =
           let r₁ = passes (isNamed (s .dispatcher .objects) k) 17 _ z in
           let r₂ = passes (isUnselected (s .policy)) 19 _ (r₁ .1) in

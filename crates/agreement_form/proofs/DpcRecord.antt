@@ -48,8 +48,8 @@ module _ (w : List ℕ) (place holder : ℕ) (d : Dpc) (r : Row w place (dpcRow 
   dpc-placed : DpcPlaced d → dpcPlaced w place ≡ true
   unfolding dpcPlaced
   dpc-placed h =
-      ap (λ (n : ℕ). located w place 4 (dpcSize (architectureOf n))) (r 4 (architectureNumber (d .architecture)) refl)
-      ∙ ap (λ x. located w place 4 (dpcSize x)) (architecture-read (d .architecture))
+      ap (λ (n : ℕ). located w place at.dpcArchitecture (dpcSize (architectureOf n))) (r 4 (architectureNumber (d .architecture)) refl)
+      ∙ ap (λ x. located w place at.dpcArchitecture (dpcSize x)) (architecture-read (d .architecture))
       ∙ located-is w place 4 (d .address) (dpcSize (d .architecture)) (d .architecture) (d .backing) (first-word w place (d .address) (r 0 (d .address) refl))
       (r 4 (architectureNumber (d .architecture)) refl) (r 5 (backingKind (d .backing)) refl) (r 6 (backingBase (d .backing)) refl)
       (r 7 (backingSize (d .backing)) refl) (r 8 (backingMapped (d .backing)) refl) h

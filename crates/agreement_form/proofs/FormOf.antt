@@ -55,7 +55,7 @@ module _ (w : List ℕ) (words : Words w) (p : Parts w) where
           let le = leb-true (suc i) (getD w at.threads 0) e in
           let t = p .threads (suc i) (omega arith) le in
           subst ThreadFits (sym (thread-at w (suc i) (omega arith) le))
-          (result-fits (getD w (at.threadWord at.result suc i) 0) (t .result), status-fits (suc i) (getD w (at.threadWord at.state suc i) 0) (t .one-state) (t .small-state) (t .status))
+          (result-fits (getD w (at.threadWord at.result (suc i)) 0) (t .result), status-fits (suc i) (getD w (at.threadWord at.state (suc i)) 0) (t .one-state) (t .small-state) (t .status))
       go false e = subst ThreadFits (sym (thread-past w (suc i) (leb-false (suc i) (getD w at.threads 0) e))) (tt, omega arith)
 
   numbers : Numbers (decoded w)

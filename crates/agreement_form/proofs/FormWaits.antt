@@ -104,6 +104,6 @@ module _ (w : List ℕ) (words : Words w) (p : Parts w) where
           let le = leb-true (suc i) (getD w at.threads 0) e in
           let t = p .threads (suc i) (omega arith) le in
           subst (λ (x : Thread). WaitingValid (decoded w .dispatcher) (x .status)) (sym (thread-at w (suc i) (omega arith) le))
-          (by-state (suc i) (getD w (at.threadWord at.state suc i) 0) (t .one-state) (t .small-state) (wait-valid (suc i) t))
+          (by-state (suc i) (getD w (at.threadWord at.state (suc i)) 0) (t .one-state) (t .small-state) (wait-valid (suc i) t))
       go false e =
           subst (λ (x : Thread). WaitingValid (decoded w .dispatcher) (x .status)) (sym (thread-past w (suc i) (leb-false (suc i) (getD w at.threads 0) e))) tt

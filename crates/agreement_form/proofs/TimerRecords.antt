@@ -75,8 +75,8 @@ module _ (w : List ℕ) (place : ℕ) (t : Timer) (r : Row w place (timerRow t))
   placed-passes : Placed (timer t) → timerPlaced w place ≡ true
   unfolding timerPlaced
   placed-passes h =
-      ap (λ (n : ℕ). located w place 12 (timerSize (architectureOf n))) (r 12 (architectureNumber (t .architecture)) refl)
-      ∙ ap (λ x. located w place 12 (timerSize x)) (architecture-read (t .architecture))
+      ap (λ (n : ℕ). located w place at.timerArchitecture (timerSize (architectureOf n))) (r 12 (architectureNumber (t .architecture)) refl)
+      ∙ ap (λ x. located w place at.timerArchitecture (timerSize x)) (architecture-read (t .architecture))
       ∙ located-is w place 12 (t .address) (timerSize (t .architecture)) (t .architecture) (t .backing) (first-word w place (t .address) (r 0 (t .address) refl))
       (r 12 (architectureNumber (t .architecture)) refl) (r 13 (backingKind (t .backing)) refl) (r 14 (backingBase (t .backing)) refl)
       (r 15 (backingSize (t .backing)) refl) (r 16 (backingMapped (t .backing)) refl) h

@@ -60,8 +60,8 @@ module _ (w : List ℕ) where
 
   -- at most `k` records from `at` on
   unfoldable pub chainFrom : ℕ → Chain → ℕ → List ℕ
-  chainFrom zero c at = []
-  chainFrom (suc k) c at = cond (eqb at 0) [] (at ∷ chainFrom k c (nextOf w c at))
+  chainFrom zero c next = []
+  chainFrom (suc k) c next = cond (eqb next 0) [] (next ∷ chainFrom k c (nextOf w c next))
 
   abbrev pub chainOf : ℕ → Chain → List ℕ
   chainOf k c = chainFrom k c (firstOf w c)

@@ -72,10 +72,10 @@ module _ (w : List ℕ) (s : State) (a : Agree w s) where
   sim-retired lo hi =
       same-named (retired w lo hi) (withTable s l) (holderOf (s .dispatcher .objects)) (activeAddress (s .dpcs .table))
       (sim-objects w s (holderOf (s .dispatcher .objects)) (activeAddress (s .dpcs .table)) a (retired w lo hi) l
-      (length-retired tables.Whole P objects-local f lo hi base low high w xs at count few long)
-      (retired-outside tables.Whole P objects-local f lo hi base low high w xs at count few long Else (λ e. e .no-count refl) (λ p x y e. e .no-object x (omega (arith, a .shape .sizes .objects-fit))))
-      (retired-count tables.Whole P objects-local f lo hi base low high w xs at count few long (a .objects) goes)
-      (retired-holds tables.Whole P objects-local f lo hi base low high w xs at count few long (a .objects) goes)
+      (length-retired tables.Whole P objects-local f lo hi base low high w xs based count few long)
+      (retired-outside tables.Whole P objects-local f lo hi base low high w xs based count few long Else (λ e. e .no-count refl) (λ p x y e. e .no-object x (omega (arith, a .shape .sizes .objects-fit))))
+      (retired-count tables.Whole P objects-local f lo hi base low high w xs based count few long (a .objects) goes)
+      (retired-holds tables.Whole P objects-local f lo hi base low high w xs based count few long (a .objects) goes)
       (omega (arith, length-keep f xs, a .shape .sizes .objects-fit))
       (rising-keep keyOf f xs (a .shape .rising)) (each-keep keyOf ObjectFits f xs (a .shape .rising) (a .shape .bounded)))
       (holderOf l) (activeAddress (s .dpcs .table)) (λ d m. holder-keep f xs (d .address) (λ x i. timers-stay lo hi (d .address) x)) refl
@@ -104,8 +104,8 @@ module _ (w : List ℕ) (s : State) (a : Agree w s) where
       high : at.headerSize ≤ objectsFrom (s .limits)
       high = omega arith
 
-      at : objectsBase w ≡ objectsFrom (s .limits)
-      at = base-is w s (holderOf (s .dispatcher .objects)) (activeAddress (s .dpcs .table)) a
+      based : objectsBase w ≡ objectsFrom (s .limits)
+      based = base-is w s (holderOf (s .dispatcher .objects)) (activeAddress (s .dpcs .table)) a
 
       count : getD w at.objects 0 ≡ length (s .dispatcher .objects)
       count = a .numbers at.objects (length (s .dispatcher .objects)) refl

@@ -32,7 +32,7 @@ unfolding dpcCount
 count-is w n e h = ap (λ (m : ℕ). cond (leb m 4096) m 4096) e ∙ ap (λ (b : Bool). cond b n 4096) (le-leb n 4096 h)
 
 module _ {A : Type 0} (key : A → ℕ) (f : A → Bool) (w : List ℕ) (base : ℕ) (xs : List A) (ns : List ℕ)
-    (low : base ≤ 1000000) (high : at.headerSize ≤ base) (at : dpcsBase w ≡ base) (count : getD w at.dpcs 0 ≡ length xs) (few : length xs ≤ 4096) (long : base + 32 * length xs ≤ length w)
+    (low : base ≤ 1000000) (high : at.headerSize ≤ base) (based : dpcsBase w ≡ base) (count : getD w at.dpcs 0 ≡ length xs) (few : length xs ≤ 4096) (long : base + 32 * length xs ≤ length w)
     (rising : Rising key xs) (marks : Holds (Marked f 1 9) w base xs)
     (queued : Queued w (queueOf base) 0 ns) (once : Distinct ns) (short : length ns ≤ 4096) (stay : (y : ℕ) → Mem y ns → Stays f xs y) (last : Mem (getD w at.queueLast 0) (0 ∷ ns)) where
   good : (y : ℕ) → Mem y ns → (1 ≤ y) × (y ≤ length xs) × Stays f xs y
@@ -50,7 +50,7 @@ module _ {A : Type 0} (key : A → ℕ) (f : A → Bool) (w : List ℕ) (base : 
 
   numbered-is : numbered w ≡ w₁
   unfolding numbered w₁
-  numbered-is = ap₂ (λ (m p : ℕ). numberedIn m w p 0 0) (count-is w (length xs) count few) at
+  numbered-is = ap₂ (λ (m p : ℕ). numberedIn m w p 0 0) (count-is w (length xs) count few) based
 
   len₁ : length w₁ ≡ length w
   unfolding w₁
@@ -64,7 +64,7 @@ module _ {A : Type 0} (key : A → ℕ) (f : A → Bool) (w : List ℕ) (base : 
   one₁ p far = out₁ (λ q. q ≡ p) far p refl
 
   at₁ : dpcsBase w₁ ≡ base
-  at₁ = base-depends w w₁ (one₁ 0 (λ t h e. omega arith)) (one₁ 1 (λ t h e. omega arith)) ∙ at
+  at₁ = base-depends w w₁ (one₁ 0 (λ t h e. omega arith)) (one₁ 1 (λ t h e. omega arith)) ∙ based
 
   links₁ : (y : ℕ) → y ≤ length xs → getD w₁ (linkAt (queueOf base) y) 0 ≡ getD w (linkAt (queueOf base) y) 0
   links₁ y h = one₁ (linkAt (queueOf base) y) (λ t l. queue-place base high (λ p. base + 32 * t + 21 ≡ p → ⊥) y (omega arith) (λ e q. omega arith) (λ u e q. omega arith))
@@ -79,7 +79,7 @@ module _ {A : Type 0} (key : A → ℕ) (f : A → Bool) (w : List ℕ) (base : 
   renewable₁ : Renewable base (length xs) low high few (newNumberOf f xs) refl (Stays f xs) w₁
   unfolding w₁
   renewable₁ = record {
-    at = at₁;
+    based = at₁;
     long = omega (arith, len₁);
     news = λ t l s. ap (λ (p : ℕ). getD w₁ p 0) (let z : base + 32 * t + 21 ≡ base + 32 * (0 + t) + 21 = omega arith in z)
         ∙ numbered-shows f xs w base 0 0 low (omega arith) (omega arith) (subst (λ (p : ℕ). Holds (Marked f 1 9) w p xs) (let z : base ≡ base + 32 * 0 = omega arith in z) marks) t (s .one)
@@ -110,7 +110,7 @@ module _ {A : Type 0} (key : A → ℕ) (f : A → Bool) (w : List ℕ) (base : 
 
   renewable-r : Renewable base (length xs) low high few (newNumberOf f xs) refl (Stays f xs) r
   renewable-r = record {
-    at = base-depends w₁ r (one-r 0 (λ e. omega arith) (λ t l e. omega arith)) (one-r 1 (λ e. omega arith) (λ t l e. omega arith)) ∙ at₁;
+    based = base-depends w₁ r (one-r 0 (λ e. omega arith) (λ t l e. omega arith)) (one-r 1 (λ e. omega arith) (λ t l e. omega arith)) ∙ at₁;
     long = omega (arith, len-r);
     news = λ t l s. one-r (base + 32 * t + at.newNumber) (λ e. omega arith) (λ u k e. omega arith) ∙ renewable₁ .news t l s;
   }
@@ -151,7 +151,7 @@ module _ {A : Type 0} (key : A → ℕ) (f : A → Bool) (w : List ℕ) (base : 
   marks₂ = holds-depends NoNumber (Marked f 1 9) (marked-at f 1 9 NoNumber (omega arith) (λ e. omega arith, λ e. omega arith)) w w₂ base xs copied₂ marks
 
   at₂ : dpcsBase w₂ ≡ base
-  at₂ = base-depends w w₂ (low-word 0 (omega arith)) (low-word 1 (omega arith)) ∙ at
+  at₂ = base-depends w w₂ (low-word 0 (omega arith)) (low-word 1 (omega arith)) ∙ based
     where
       low-word : (p : ℕ) → p ≤ 1 → getD w₂ p 0 ≡ getD w p 0
       low-word p h = one₂ p (λ e. omega arith) (λ e. omega arith) (λ t m e. omega arith) (λ t m e. omega arith)

@@ -221,14 +221,14 @@ dpc-local address w w′ a b d c h = record {
 
 -- ---- a DPC made
 
-module _ {A : Type 0} (key : A → ℕ) (w : List ℕ) (base : ℕ) (xs : List A) (low : base ≤ 1000000) (high : at.headerSize ≤ base) (at : dpcsBase w ≡ base) (count : getD w at.dpcs 0 ≡ length xs)
+module _ {A : Type 0} (key : A → ℕ) (w : List ℕ) (base : ℕ) (xs : List A) (low : base ≤ 1000000) (high : at.headerSize ≤ base) (based : dpcsBase w ≡ base) (count : getD w at.dpcs 0 ≡ length xs)
     (rising : Rising key xs) (keys : Holds (Keyed key) w base xs) (x : A) (d : NewDpc) where
   module _ (few : length xs < 4096) where
     inserted-is : inserted w (key x) d
         ≡ set (putDpc (gapOpened (linksRaised w (length xs) (below key (key x) xs)) base (length xs) (below key (key x) xs)) (base + 32 * below key (key x) xs) (key x) d) 5 (length xs + 1)
     unfolding inserted
     inserted-is =
-        ap₂ (λ (n p : ℕ). cond (leb 4096 n) w (set (putDpc (gapOpened (linksRaised w n (position w p n (key x))) p n (position w p n (key x))) (entryAt p (position w p n (key x))) (key x) d) 5 (n + 1))) count at
+        ap₂ (λ (n p : ℕ). cond (leb 4096 n) w (set (putDpc (gapOpened (linksRaised w n (position w p n (key x))) p n (position w p n (key x))) (entryAt p (position w p n (key x))) (key x) d) 5 (n + 1))) count based
         ∙ ap (λ (c : Bool). cond c w (set (putDpc (gapOpened (linksRaised w (length xs) (position w base (length xs) (key x))) base (length xs) (position w base (length xs) (key x)))
         (entryAt base (position w base (length xs) (key x))) (key x) d) 5 (length xs + 1)))
         (lt-leb 4096 (length xs) few)
@@ -254,7 +254,7 @@ module _ {A : Type 0} (key : A → ℕ) (w : List ℕ) (base : ℕ) (xs : List A
     unfolding w₂ w₃
     len₃ = length-dpc w₂ (base + 32 * below key (key x) xs) (key x) d ∙ len₂
 
-    inserted-three : inserted w (key x) d ≡ set w₃ 5 (length xs + 1)
+    inserted-three : inserted w (key x) d ≡ set w₃ at.dpcs (length xs + 1)
     unfolding w₃
     inserted-three = inserted-is
 
@@ -262,11 +262,11 @@ module _ {A : Type 0} (key : A → ℕ) (w : List ℕ) (base : ℕ) (xs : List A
     inserted-apart : (p : ℕ) → (p ≡ 5 → ⊥) → ((k : ℕ) → k < 11 → base + 32 * below key (key x) xs + k ≡ p → ⊥) → getD (inserted w (key x) d) p 0 ≡ getD w₂ p 0
     unfolding w₂ w₃
     inserted-apart p five far =
-        ap (λ (v : List ℕ). getD v p 0) inserted-three ∙ read-other w₃ 5 p (length xs + 1) five
+        ap (λ (v : List ℕ). getD v p 0) inserted-three ∙ read-other w₃ at.dpcs p (length xs + 1) five
         ∙ dpc-outside (λ q. q ≡ p) w₂ (base + 32 * below key (key x) xs) (key x) d far p refl
 
     pub length-inserted : length (inserted w (key x) d) ≡ length w
-    length-inserted = ap length inserted-three ∙ length-set w₃ 5 (length xs + 1) ∙ len₃
+    length-inserted = ap length inserted-three ∙ length-set w₃ at.dpcs (length xs + 1) ∙ len₃
 
     -- only the count, the queue's first, last and links, and the records from the position on are written
     pub inserted-outside : (R : ℕ → Type 0) → (R 5 → ⊥) → (R 23 → ⊥) → (R 24 → ⊥) → ((t : ℕ) → t < length xs → R (base + 32 * t + at.nextQueued) → ⊥)
@@ -274,19 +274,19 @@ module _ {A : Type 0} (key : A → ℕ) (w : List ℕ) (base : ℕ) (xs : List A
     unfolding w₁ w₂ w₃
     inserted-outside R five first last links far j r =
         ap (λ (v : List ℕ). getD v j 0) inserted-three
-        ∙ set-outside R w₃ 5 (length xs + 1) five j r
+        ∙ set-outside R w₃ at.dpcs (length xs + 1) five j r
         ∙ dpc-outside R w₂ (base + 32 * below key (key x) xs) (key x) d (λ k h. far (base + 32 * below key (key x) xs + k) (omega arith) (omega (arith, below-le key (key x) xs))) j r
         ∙ opened-outside w₁ base (length xs) (below key (key x) xs) low (omega arith) (below-le key (key x) xs) R (λ p h l. far p (omega arith) l) j r
-        ∙ raised-links-outside w base (length xs) (below key (key x) xs) at high (omega arith) R first last links j r
+        ∙ raised-links-outside w base (length xs) (below key (key x) xs) based high (omega arith) R first last links j r
 
     module _ (long : base + 32 * length xs + 32 ≤ length w) where
       pub inserted-count : getD (inserted w (key x) d) at.dpcs 0 ≡ length xs + 1
-      inserted-count = ap (λ (v : List ℕ). getD v at.dpcs 0) inserted-three ∙ read-same w₃ 5 (length xs + 1) (omega (arith, len₃))
+      inserted-count = ap (λ (v : List ℕ). getD v at.dpcs 0) inserted-three ∙ read-same w₃ at.dpcs (length xs + 1) (omega (arith, len₃))
 
       pub inserted-shows : DpcAt (inserted w (key x) d) (base + 32 * below key (key x) xs) (key x) d
       unfolding w₂ w₃
       inserted-shows = dpc-local (key x) w₃ (inserted w (key x) d) (base + 32 * below key (key x) xs) (base + 32 * below key (key x) xs) d
-          (λ k h u. ap (λ (v : List ℕ). getD v (base + 32 * below key (key x) xs + k) 0) inserted-three ∙ read-other w₃ 5 (base + 32 * below key (key x) xs + k) (length xs + 1) (λ e. omega arith))
+          (λ k h u. ap (λ (v : List ℕ). getD v (base + 32 * below key (key x) xs + k) 0) inserted-three ∙ read-other w₃ at.dpcs (base + 32 * below key (key x) xs + k) (length xs + 1) (λ e. omega arith))
           (dpc-shows w₂ (base + 32 * below key (key x) xs) (key x) d (omega (arith, below-le key (key x) xs, len₂)))
 
       -- the records but for their links
@@ -294,7 +294,7 @@ module _ {A : Type 0} (key : A → ℕ) (w : List ℕ) (base : ℕ) (xs : List A
       unfolding w₁ w₂
       inserted-grown =
           grown-after NoLink w base (length xs) (below key (key x) xs) w₁ (inserted w (key x) d) (below-le key (key x) xs)
-          (λ j h k l n. raised-links-outside w base (length xs) (below key (key x) xs) at high (omega arith) (λ p. p ≡ base + 32 * j + k) (λ e. omega arith) (λ e. omega arith) (λ t m e. n (omega arith)) (base + 32 * j + k) refl)
+          (λ j h k l n. raised-links-outside w base (length xs) (below key (key x) xs) based high (omega arith) (λ p. p ≡ base + 32 * j + k) (λ e. omega arith) (λ e. omega arith) (λ t m e. n (omega arith)) (base + 32 * j + k) refl)
           (grown-then NoLink w₁ base (length xs) (below key (key x) xs) w₂ (inserted w (key x) d) (below-le key (key x) xs)
           (opened-grown NoLink w₁ base (length xs) (below key (key x) xs) low (omega arith) (below-le key (key x) xs) (omega (arith, length-raised-links w (length xs) (below key (key x) xs))))
           (λ j h n k l u. inserted-apart (base + 32 * j + k) (λ e. omega arith) (λ i m e. n (omega arith))))
@@ -305,21 +305,21 @@ module _ {A : Type 0} (key : A → ℕ) (w : List ℕ) (base : ℕ) (xs : List A
       inserted-first =
           inserted-apart 23 (λ e. omega arith) (λ i m e. omega arith)
           ∙ opened-outside w₁ base (length xs) (below key (key x) xs) low (omega arith) (below-le key (key x) xs) (λ p. p ≡ 23) (λ p h l e. omega arith) 23 refl
-          ∙ raised-first w base (length xs) (below key (key x) xs) at high (omega arith) (omega arith) (omega arith)
+          ∙ raised-first w base (length xs) (below key (key x) xs) based high (omega arith) (omega arith) (omega arith)
 
       pub inserted-last : getD (inserted w (key x) d) at.queueLast 0 ≡ raisedNumber (getD w at.queueLast 0) (below key (key x) xs)
       unfolding w₁ w₂
       inserted-last =
           inserted-apart 24 (λ e. omega arith) (λ i m e. omega arith)
           ∙ opened-outside w₁ base (length xs) (below key (key x) xs) low (omega arith) (below-le key (key x) xs) (λ p. p ≡ 24) (λ p h l e. omega arith) 24 refl
-          ∙ raised-last w base (length xs) (below key (key x) xs) at high (omega arith) (omega arith) (omega arith)
+          ∙ raised-last w base (length xs) (below key (key x) xs) based high (omega arith) (omega arith) (omega arith)
 
       pub inserted-link-before : (j : ℕ) → j < below key (key x) xs → getD (inserted w (key x) d) (base + 32 * j + at.nextQueued) 0 ≡ raisedNumber (getD w (base + 32 * j + at.nextQueued) 0) (below key (key x) xs)
       unfolding w₁ w₂
       inserted-link-before j h =
           inserted-apart (base + 32 * j + at.nextQueued) (λ e. omega arith) (λ i m e. omega arith)
           ∙ opened-before w₁ base (length xs) (below key (key x) xs) low (omega arith) (below-le key (key x) xs) j 2 (omega arith) (omega arith)
-          ∙ raised-link w base (length xs) (below key (key x) xs) at high (omega arith) (omega arith) (omega arith) j (omega (arith, below-le key (key x) xs))
+          ∙ raised-link w base (length xs) (below key (key x) xs) based high (omega arith) (omega arith) (omega arith) j (omega (arith, below-le key (key x) xs))
 
       pub inserted-link-behind : (j : ℕ) → below key (key x) xs ≤ j → j < length xs
           → getD (inserted w (key x) d) (base + 32 * suc j + at.nextQueued) 0 ≡ raisedNumber (getD w (base + 32 * j + at.nextQueued) 0) (below key (key x) xs)
@@ -327,7 +327,7 @@ module _ {A : Type 0} (key : A → ℕ) (w : List ℕ) (base : ℕ) (xs : List A
       inserted-link-behind j h l =
           inserted-apart (base + 32 * suc j + at.nextQueued) (λ e. omega arith) (λ i m e. omega arith)
           ∙ opened-behind w₁ base (length xs) (below key (key x) xs) low (omega arith) (below-le key (key x) xs) (omega (arith, length-raised-links w (length xs) (below key (key x) xs))) j 2 h l (omega arith)
-          ∙ raised-link w base (length xs) (below key (key x) xs) at high (omega arith) (omega arith) (omega arith) j l
+          ∙ raised-link w base (length xs) (below key (key x) xs) based high (omega arith) (omega arith) (omega arith) j l
 
       -- the link of a DPC by its new number is the new number of its link
       pub inserted-links : (y : ℕ) → y ≤ length xs
@@ -355,13 +355,13 @@ module _ {A : Type 0} (key : A → ℕ) (w : List ℕ) (base : ℕ) (xs : List A
   entered-new few h =
       ap (λ (c : Bool). cond c (inserted w (key x) d) (putDpc w (foundAt w (dpcsBase w) (getD w at.dpcs 0) (key x)) (key x) d))
       (eq-eqb (foundAt w (dpcsBase w) (getD w at.dpcs 0) (key x)) 0
-      (ap₂ (λ (p n : ℕ). foundAt w p n (key x)) at count ∙ missing-is key w base xs low (omega arith) rising keys (length xs) (key x) refl h))
+      (ap₂ (λ (p n : ℕ). foundAt w p n (key x)) based count ∙ missing-is key w base xs low (omega arith) rising keys (length xs) (key x) refl h))
 
   pub entered-known : length xs ≤ 4096 → (z : A) → find key xs (key x) ≡ some z → entered w (key x) d ≡ putDpc w (base + 32 * below key (key x) xs) (key x) d
   unfolding entered dpcFound
   entered-known few z h =
       let e : foundAt w (dpcsBase w) (getD w at.dpcs 0) (key x) ≡ base + 32 * below key (key x) xs =
-      ap₂ (λ (p n : ℕ). foundAt w p n (key x)) at count ∙ found-is key w base xs low (omega arith) rising keys (length xs) (key x) refl z h in
+      ap₂ (λ (p n : ℕ). foundAt w p n (key x)) based count ∙ found-is key w base xs low (omega arith) rising keys (length xs) (key x) refl z h in
       ap (λ (p : ℕ). cond (eqb p 0) (inserted w (key x) d) (putDpc w p (key x) d)) e
       ∙ ap (λ (c : Bool). cond c (inserted w (key x) d) (putDpc w (base + 32 * below key (key x) xs) (key x) d)) (ne-eqb (base + 32 * below key (key x) xs) 0 (λ q. omega arith))
 

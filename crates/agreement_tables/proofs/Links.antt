@@ -31,7 +31,7 @@ queue-link base high i h =
 
 pub queue-is : (w : List ℕ) (base : ℕ) → dpcsBase w ≡ base → queueChain w ≡ queueOf base
 unfolding queueChain
-queue-is w base at = ap queueOf at
+queue-is w base based = ap queueOf based
 
 -- by cases: the first, or word 2 of a record
 pub queue-place : (base : ℕ) → at.headerSize ≤ base → (Q : ℕ → Type 0) (y : ℕ) → y ≤ 4096 → (y ≡ 0 → Q 23) → ((t : ℕ) → y ≡ suc t → Q (base + 32 * t + 2)) → Q (linkAt (queueOf base) y)
@@ -48,7 +48,7 @@ unfolding linkAt queueChain
 link-first w = refl
 
 pub link-of : (w : List ℕ) (base : ℕ) → dpcsBase w ≡ base → at.headerSize ≤ base → (i : ℕ) → i < 4096 → linkAt (queueChain w) (suc i) ≡ base + 32 * i + 2
-link-of w base at high i h = ap (λ (c : Chain). linkAt c (suc i)) (queue-is w base at) ∙ queue-link base high i h
+link-of w base based high i h = ap (λ (c : Chain). linkAt c (suc i)) (queue-is w base based) ∙ queue-link base high i h
 
 -- ---- `m` links from that of `k` on
 
@@ -92,9 +92,9 @@ pub length-raised-links : (w : List ℕ) (n i : ℕ) → length (linksRaised w n
 unfolding linksRaised numberRaised
 length-raised-links w n i =
     let w₁ = linksRaisedIn (n + 1) w (queueChain w) 0 i in
-    length-set w₁ 24 (raisedNumber (getD w₁ at.queueLast 0) i) ∙ length-links (queueChain w) i (n + 1) w 0
+    length-set w₁ at.queueLast (raisedNumber (getD w₁ at.queueLast 0) i) ∙ length-links (queueChain w) i (n + 1) w 0
 
-module _ (w : List ℕ) (base n i : ℕ) (at : dpcsBase w ≡ base) (high : at.headerSize ≤ base) (few : n ≤ 4096) where
+module _ (w : List ℕ) (base n i : ℕ) (based : dpcsBase w ≡ base) (high : at.headerSize ≤ base) (few : n ≤ 4096) where
   w₁ : List ℕ
   w₁ = linksRaisedIn (n + 1) w (queueChain w) 0 i
 
@@ -102,11 +102,11 @@ module _ (w : List ℕ) (base n i : ℕ) (at : dpcsBase w ≡ base) (high : at.h
   pub raised-links-outside : (R : ℕ → Type 0) → (R 23 → ⊥) → (R 24 → ⊥) → ((t : ℕ) → t < n → R (base + 32 * t + at.nextQueued) → ⊥) → Same R w (linksRaised w n i)
   unfolding linksRaised numberRaised w₁
   raised-links-outside R first last far j r =
-      set-outside R w₁ 24 (raisedNumber (getD w₁ at.queueLast 0) i) last j r ∙ links-outside (queueChain w) i (n + 1) R w 0 (λ t a b. go t b) j r
+      set-outside R w₁ at.queueLast (raisedNumber (getD w₁ at.queueLast 0) i) last j r ∙ links-outside (queueChain w) i (n + 1) R w 0 (λ t a b. go t b) j r
     where
       go : (t : ℕ) → t < 0 + (n + 1) → R (linkAt (queueChain w) t) → ⊥
       go zero h q = first (subst R (link-first w) q)
-      go (suc t) h q = far t (omega arith) (subst R (link-of w base at high t (omega arith)) q)
+      go (suc t) h q = far t (omega arith) (subst R (link-of w base based high t (omega arith)) q)
 
   module _ (long : base + 32 * n ≤ length w) (enough : 25 ≤ length w) where
     place : ℕ → ℕ
@@ -116,7 +116,7 @@ module _ (w : List ℕ) (base n i : ℕ) (at : dpcsBase w ≡ base) (high : at.h
     places : (t : ℕ) → t < n + 1 → linkAt (queueChain w) t ≡ place t
     unfolding place
     places zero h = link-first w
-    places (suc t) h = link-of w base at high t (omega arith)
+    places (suc t) h = link-of w base based high t (omega arith)
 
     apart : (t u : ℕ) → place t ≡ place u → t ≡ u
     unfolding place
@@ -133,7 +133,7 @@ module _ (w : List ℕ) (base n i : ℕ) (at : dpcsBase w ≡ base) (high : at.h
     raised-at : (t : ℕ) → t < n + 1 → getD (linksRaised w n i) (linkAt (queueChain w) t) 0 ≡ raisedNumber (getD w (linkAt (queueChain w) t) 0) i
     unfolding linksRaised numberRaised w₁
     raised-at t h =
-        read-other w₁ 24 (linkAt (queueChain w) t) (raisedNumber (getD w₁ at.queueLast 0) i) (λ e. inside t h .1 (sym (places t h) ∙ e))
+        read-other w₁ at.queueLast (linkAt (queueChain w) t) (raisedNumber (getD w₁ at.queueLast 0) i) (λ e. inside t h .1 (sym (places t h) ∙ e))
         ∙ links-show (queueChain w) i (n + 1) w 0 (λ t u a b e. apart t u (sym (places t (omega arith)) ∙ e ∙ places u (omega arith)))
         (λ t a. let l = inside t (omega arith) .0 in omega (arith, places t (omega arith))) t (omega arith) (omega arith)
 
@@ -143,11 +143,11 @@ module _ (w : List ℕ) (base n i : ℕ) (at : dpcsBase w ≡ base) (high : at.h
     pub raised-last : getD (linksRaised w n i) at.queueLast 0 ≡ raisedNumber (getD w at.queueLast 0) i
     unfolding linksRaised numberRaised w₁
     raised-last =
-        read-same w₁ 24 (raisedNumber (getD w₁ at.queueLast 0) i) (omega (arith, length-links (queueChain w) i (n + 1) w 0))
+        read-same w₁ at.queueLast (raisedNumber (getD w₁ at.queueLast 0) i) (omega (arith, length-links (queueChain w) i (n + 1) w 0))
         ∙ ap (λ (v : ℕ). raisedNumber v i)
         (links-outside (queueChain w) i (n + 1) (λ p. p ≡ at.queueLast) w 0 (λ t a b e. inside t (omega arith) .1 (sym (places t (omega arith)) ∙ e)) 24 refl)
 
     pub raised-link : (t : ℕ) → t < n → getD (linksRaised w n i) (base + 32 * t + at.nextQueued) 0 ≡ raisedNumber (getD w (base + 32 * t + at.nextQueued) 0) i
     raised-link t h =
-        let e = link-of w base at high t (omega arith) in
+        let e = link-of w base based high t (omega arith) in
         ap (λ (p : ℕ). getD (linksRaised w n i) p 0) (sym e) ∙ raised-at (suc t) (omega arith) ∙ ap (λ (p : ℕ). raisedNumber (getD w p 0) i) e

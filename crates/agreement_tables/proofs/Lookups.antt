@@ -32,15 +32,15 @@ objects-base w t e h = ap (λ (n : ℕ). cond (leb n at.mostThreads) (at.headerS
 -- behind room for `o` objects
 pub dpcs-base : (w : List ℕ) (base o : ℕ) → objectsBase w ≡ base → base ≤ 1000000 → getD w at.objectLimit 0 ≡ o → o ≤ 4096 → dpcsBase w ≡ base + 32 * o
 unfolding dpcsBase
-dpcs-base w base o at low e h = ap₂ (λ (p n : ℕ). entryAt p n) at e ∙ entry-is base o low (omega arith)
+dpcs-base w base o based low e h = ap₂ (λ (p n : ℕ). entryAt p n) based e ∙ entry-is base o low (omega arith)
 
 -- ---- objects
 
-module _ {A : Type 0} (key : A → ℕ) (w : List ℕ) (base : ℕ) (xs : List A) (low : base ≤ 1000000) (high : at.headerSize ≤ base) (at : objectsBase w ≡ base) (count : getD w at.objects 0 ≡ length xs)
+module _ {A : Type 0} (key : A → ℕ) (w : List ℕ) (base : ℕ) (xs : List A) (low : base ≤ 1000000) (high : at.headerSize ≤ base) (based : objectsBase w ≡ base) (count : getD w at.objects 0 ≡ length xs)
     (few : length xs ≤ 4096) (rising : Rising key xs) (keys : Holds (Keyed key) w base xs) where
   found-there : (k : ℕ) → objectFound w k ≡ foundAt w base (length xs) k
   unfolding objectFound
-  found-there k = ap₂ (λ (p n : ℕ). foundAt w p n k) at count
+  found-there k = ap₂ (λ (p n : ℕ). foundAt w p n k) based count
 
   pub object-found : (k : ℕ) (x : A) → find key xs k ≡ some x → objectFound w k ≡ base + 32 * below key k xs
   object-found k x e = found-there k ∙ found-is key w base xs low (omega arith) rising keys (length xs) k refl x e
@@ -106,15 +106,15 @@ module _ {A : Type 0} (key : A → ℕ) (w : List ℕ) (base : ℕ) (xs : List A
 -- DPC `i + 1` has record `i`
 pub place-of-number : (w : List ℕ) (base : ℕ) → base ≤ 1000000 → dpcsBase w ≡ base → (i : ℕ) → i < 4096 → placeAt w (i + 1) ≡ base + 32 * i
 unfolding placeAt
-place-of-number w base low at i h =
+place-of-number w base low based i h =
     ap₂ (λ (a c : Bool). cond a at.unused (cond c at.unused (entryAt (dpcsBase w) (i + 1 - 1)))) (ne-eqb (i + 1) 0 (λ e. omega arith)) (le-ltb 4096 (i + 1) (omega arith))
-    ∙ ap₂ (λ (p j : ℕ). entryAt p j) at (let z : i + 1 - 1 ≡ i = omega arith in z) ∙ entry-is base i low (omega arith)
+    ∙ ap₂ (λ (p j : ℕ). entryAt p j) based (let z : i + 1 - 1 ≡ i = omega arith in z) ∙ entry-is base i low (omega arith)
 
-module _ {A : Type 0} (address : A → ℕ) (w : List ℕ) (base : ℕ) (xs : List A) (low : base ≤ 1000000) (high : at.headerSize ≤ base) (at : dpcsBase w ≡ base) (count : getD w at.dpcs 0 ≡ length xs)
+module _ {A : Type 0} (address : A → ℕ) (w : List ℕ) (base : ℕ) (xs : List A) (low : base ≤ 1000000) (high : at.headerSize ≤ base) (based : dpcsBase w ≡ base) (count : getD w at.dpcs 0 ≡ length xs)
     (few : length xs ≤ 4096) (rising : Rising address xs) (keys : Holds (Keyed address) w base xs) where
   dpc-there : (a : ℕ) → dpcFound w a ≡ foundAt w base (length xs) a
   unfolding dpcFound
-  dpc-there a = ap₂ (λ (p n : ℕ). foundAt w p n a) at count
+  dpc-there a = ap₂ (λ (p n : ℕ). foundAt w p n a) based count
 
   pub dpc-found : (a : ℕ) (x : A) → find address xs a ≡ some x → dpcFound w a ≡ base + 32 * below address a xs
   dpc-found a x e = dpc-there a ∙ found-is address w base xs low (omega arith) rising keys (length xs) a refl x e
@@ -133,14 +133,14 @@ module _ {A : Type 0} (address : A → ℕ) (w : List ℕ) (base : ℕ) (xs : Li
       let l = find-in address xs rising a x e in
       let q : keyAt w base (below address a xs) ≡ a =
       key-is w base (below address a xs) low (omega (arith, l)) ∙ keys (below address a xs) x (find-at address xs rising a x e) ∙ found address xs a x e .1 in
-      ap₂ (λ (n p : ℕ). cond (leb n (position w p n a)) 0 (cond (eqb (keyAt w p (position w p n a)) a) (position w p n a + 1) 0)) count at
+      ap₂ (λ (n p : ℕ). cond (leb n (position w p n a)) 0 (cond (eqb (keyAt w p (position w p n a)) a) (position w p n a + 1) 0)) count based
       ∙ ap (λ (i : ℕ). cond (leb (length xs) i) 0 (cond (eqb (keyAt w base i) a) (i + 1) 0)) (position-is address w base xs low (omega arith) rising keys (length xs) a refl)
       ∙ ap₂ (λ (b c : Bool). cond b 0 (cond c (i + 1) 0)) (lt-leb (length xs) (below address a xs) l) (eq-eqb (keyAt w base (below address a xs)) a q)
 
   pub number-missing : (a : ℕ) → find address xs a ≡ none → numberOf w a ≡ 0
   unfolding numberOf
   number-missing a e =
-      ap₂ (λ (n p : ℕ). cond (leb n (position w p n a)) 0 (cond (eqb (keyAt w p (position w p n a)) a) (position w p n a + 1) 0)) count at
+      ap₂ (λ (n p : ℕ). cond (leb n (position w p n a)) 0 (cond (eqb (keyAt w p (position w p n a)) a) (position w p n a + 1) 0)) count based
       ∙ ap (λ (i : ℕ). cond (leb (length xs) i) 0 (cond (eqb (keyAt w base i) a) (i + 1) 0)) (position-is address w base xs low (omega arith) rising keys (length xs) a refl)
       ∙ go (decLt (below address a xs) (length xs))
     where

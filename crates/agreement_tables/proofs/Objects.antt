@@ -96,13 +96,13 @@ object-local key w w′ a b o c h = record {
 
 -- ---- an object made
 
-module _ {A : Type 0} (key : A → ℕ) (w : List ℕ) (base : ℕ) (xs : List A) (low : base ≤ 1000000) (high : at.headerSize ≤ base) (at : objectsBase w ≡ base) (count : getD w at.objects 0 ≡ length xs)
+module _ {A : Type 0} (key : A → ℕ) (w : List ℕ) (base : ℕ) (xs : List A) (low : base ≤ 1000000) (high : at.headerSize ≤ base) (based : objectsBase w ≡ base) (count : getD w at.objects 0 ≡ length xs)
     (rising : Rising key xs) (keys : Holds (Keyed key) w base xs) (x : A) (o : Object) where
   module _ (few : length xs < 4096) where
     inserted-is : inserted w (key x) o ≡ set (putObject (gapOpened w base (length xs) (below key (key x) xs)) (base + 32 * below key (key x) xs) (key x) o) 4 (length xs + 1)
     unfolding inserted
     inserted-is =
-        ap₂ (λ (n p : ℕ). cond (leb 4096 n) w (set (putObject (gapOpened w p n (position w p n (key x))) (entryAt p (position w p n (key x))) (key x) o) 4 (n + 1))) count at
+        ap₂ (λ (n p : ℕ). cond (leb 4096 n) w (set (putObject (gapOpened w p n (position w p n (key x))) (entryAt p (position w p n (key x))) (key x) o) 4 (n + 1))) count based
         ∙ ap (λ (c : Bool). cond c w (set (putObject (gapOpened w base (length xs) (position w base (length xs) (key x))) (entryAt base (position w base (length xs) (key x))) (key x) o) 4 (length xs + 1)))
         (lt-leb 4096 (length xs) few)
         ∙ ap (λ (i : ℕ). set (putObject (gapOpened w base (length xs) i) (entryAt base i) (key x) o) 4 (length xs + 1))
@@ -137,7 +137,7 @@ module _ {A : Type 0} (key : A → ℕ) (w : List ℕ) (base : ℕ) (xs : List A
 
       pub inserted-shows : ObjectAt (inserted w (key x) o) (base + 32 * below key (key x) xs) (key x) o
       inserted-shows = object-local (key x) w₂ (inserted w (key x) o) (base + 32 * b) (base + 32 * b) o
-          (λ k h d. ap (λ (v : List ℕ). getD v (base + 32 * b + k) 0) inserted-is ∙ read-other w₂ 4 (base + 32 * b + k) (length xs + 1) (λ e. omega arith))
+          (λ k h d. ap (λ (v : List ℕ). getD v (base + 32 * b + k) 0) inserted-is ∙ read-other w₂ at.objects (base + 32 * b + k) (length xs + 1) (λ e. omega arith))
           (object-shows w₁ (base + 32 * b) (key x) o (omega (arith, below-le key (key x) xs, length-opened w base (length xs) b)))
         where
           b : ℕ
@@ -152,7 +152,7 @@ module _ {A : Type 0} (key : A → ℕ) (w : List ℕ) (base : ℕ) (xs : List A
       pub inserted-grown : (D : ℕ → Type 0) → Grown D w base (length xs) (below key (key x) xs) (inserted w (key x) o)
       inserted-grown D = grown-then D w base (length xs) b w₁ (inserted w (key x) o) (below-le key (key x) xs)
           (opened-grown D w base (length xs) b low (omega arith) (below-le key (key x) xs) long)
-          (λ j h n k l d. ap (λ (v : List ℕ). getD v (base + 32 * j + k) 0) inserted-is ∙ read-other w₂ 4 (base + 32 * j + k) (length xs + 1) (λ e. omega arith)
+          (λ j h n k l d. ap (λ (v : List ℕ). getD v (base + 32 * j + k) 0) inserted-is ∙ read-other w₂ at.objects (base + 32 * j + k) (length xs + 1) (λ e. omega arith)
           ∙ object-outside (λ p. p ≡ base + 32 * j + k) w₁ (base + 32 * b) (key x) o (λ i m e. n (omega arith)) (base + 32 * j + k) refl)
         where
           b : ℕ
@@ -172,14 +172,14 @@ module _ {A : Type 0} (key : A → ℕ) (w : List ℕ) (base : ℕ) (xs : List A
   entered-new few h =
       ap (λ (c : Bool). cond c (inserted w (key x) o) (putObject w (foundAt w (objectsBase w) (getD w at.objects 0) (key x)) (key x) o))
       (eq-eqb (foundAt w (objectsBase w) (getD w at.objects 0) (key x)) 0
-      (ap₂ (λ (p n : ℕ). foundAt w p n (key x)) at count ∙ missing-is key w base xs low (omega arith) rising keys (length xs) (key x) refl h))
+      (ap₂ (λ (p n : ℕ). foundAt w p n (key x)) based count ∙ missing-is key w base xs low (omega arith) rising keys (length xs) (key x) refl h))
 
   -- its key is known
   pub entered-known : length xs ≤ 4096 → (z : A) → find key xs (key x) ≡ some z → entered w (key x) o ≡ putObject w (base + 32 * below key (key x) xs) (key x) o
   unfolding entered objectFound
   entered-known few z h =
       let e : foundAt w (objectsBase w) (getD w at.objects 0) (key x) ≡ base + 32 * below key (key x) xs =
-      ap₂ (λ (p n : ℕ). foundAt w p n (key x)) at count ∙ found-is key w base xs low (omega arith) rising keys (length xs) (key x) refl z h in
+      ap₂ (λ (p n : ℕ). foundAt w p n (key x)) based count ∙ found-is key w base xs low (omega arith) rising keys (length xs) (key x) refl z h in
       ap (λ (p : ℕ). cond (eqb p 0) (inserted w (key x) o) (putObject w p (key x) o)) e
       ∙ ap (λ (c : Bool). cond c (inserted w (key x) o) (putObject w (base + 32 * below key (key x) xs) (key x) o)) (ne-eqb (base + 32 * below key (key x) xs) 0 (λ q. omega arith))
 

@@ -104,15 +104,15 @@ base-depends w w′ a b = ap₂ (λ (t o : ℕ). entryAt (objectsAt t) o) a b
 -- the new number of DPC `i + 1` is word 21 of record `i`
 new-at : (w : List ℕ) (base : ℕ) → base ≤ 1000000 → dpcsBase w ≡ base → (i : ℕ) → i < 4096 → newNumber w (suc i) ≡ getD w (base + 32 * i + at.newNumber) 0
 unfolding newNumber
-new-at w base low at i h =
+new-at w base low based i h =
     ap (λ (b : Bool). cond b 0 (getD w (placeAt w (suc i) + at.newNumber) 0)) (ne-eqb (suc i) 0 (λ e. omega arith))
     ∙ ap (λ (n : ℕ). getD w (placeAt w n + at.newNumber) 0) (let z : suc i ≡ i + 1 = omega arith in z)
-    ∙ ap (λ (p : ℕ). getD w (p + at.newNumber) 0) (place-of-number w base low at i h)
+    ∙ ap (λ (p : ℕ). getD w (p + at.newNumber) 0) (place-of-number w base low based i h)
 
 -- `N` gives the new numbers of the DPCs of which `G` holds
 module _ (base n : ℕ) (low : base ≤ 1000000) (high : at.headerSize ≤ base) (few : n ≤ 4096) (N : ℕ → ℕ) (none-stays : N 0 ≡ 0) (G : ℕ → Type 0) where
   pub record Renewable (w : List ℕ) : Type 0 where
-    pub at : dpcsBase w ≡ base
+    pub based : dpcsBase w ≡ base
     pub long : base + 32 * n ≤ length w
     pub news : (t : ℕ) → t < n → G (suc t) → getD w (base + 32 * t + at.newNumber) 0 ≡ N (suc t)
 
@@ -123,12 +123,12 @@ module _ (base n : ℕ) (low : base ≤ 1000000) (high : at.headerSize ≤ base)
   unfolding newNumber
   new-is w r y (inl e) = ap (λ (b : Bool). cond b 0 (getD w (placeAt w y + at.newNumber) 0)) (eq-eqb y 0 e) ∙ sym (ap N e ∙ none-stays)
   new-is w r zero (inr g) = absurd (omega (arith, g .0))
-  new-is w r (suc t) (inr g) = new-at w base low (r .at) t (omega (arith, g .1)) ∙ r .news t (omega (arith, g .1)) (g .2)
+  new-is w r (suc t) (inr g) = new-at w base low (r .based) t (omega (arith, g .1)) ∙ r .news t (omega (arith, g .1)) (g .2)
 
   -- a store to a link leaves that so
   renewable-set : (w : List ℕ) (y v : ℕ) → y ≤ n → Renewable w → Renewable (set w (linkAt (queueOf base) y) v)
   renewable-set w y v h r = record {
-    at = base-depends w (set w (linkAt (queueOf base) y) v) (keeps 0 (omega arith)) (keeps 1 (omega arith)) ∙ r .at;
+    based = base-depends w (set w (linkAt (queueOf base) y) v) (keeps 0 (omega arith)) (keeps 1 (omega arith)) ∙ r .based;
     long = omega (arith, r .long, length-set w (linkAt (queueOf base) y) v);
     news = λ t l g. read-other w (linkAt (queueOf base) y) (base + 32 * t + at.newNumber) v
         (queue-place base high (λ p. base + 32 * t + 21 ≡ p → ⊥) y (omega arith) (λ e q. omega arith) (λ u e q. omega arith)) ∙ r .news t l g;

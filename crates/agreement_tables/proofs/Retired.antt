@@ -24,7 +24,7 @@ use Rattle.agreement_tables.proofs.Compacts.{length-moved, moved-outsid
 
 pub length-retired-in : (m : ℕ) (w : List ℕ) (base i j lo hi : ℕ) → length (retiredIn m w base i j lo hi) ≡ length w
 unfolding retiredIn
-length-retired-in zero w base i j lo hi = length-set w 4 j
+length-retired-in zero w base i j lo hi = length-set w at.objects j
 length-retired-in (suc m) w base i j lo hi =
     go (isRetired w (entryAt base i) lo hi) (length-retired-in m w base (i + 1) j lo hi) (length-retired-in m (moved w base i j) base (i + 1) (j + 1) lo hi)
   where
@@ -36,7 +36,7 @@ length-retired-in (suc m) w base i j lo hi =
 retired-in-outside : (m : ℕ) (R : ℕ → Type 0) (w : List ℕ) (base i j lo hi : ℕ) → base ≤ 1000000 → i + m ≤ 8192 → j ≤ i → (R 4 → ⊥) → ((p : ℕ) → base ≤ p → p < base + 32 * (i + m) → R p → ⊥)
     → Same R w (retiredIn m w base i j lo hi)
 unfolding retiredIn
-retired-in-outside zero R w base i j lo hi low few down four far p r = set-outside R w 4 j four p r
+retired-in-outside zero R w base i j lo hi low few down four far p r = set-outside R w at.objects j four p r
 retired-in-outside (suc m) R w base i j lo hi low few down four far p r =
     go (isRetired w (entryAt base i) lo hi) (λ w₁ j₁ l. retired-in-outside m R w₁ base (i + 1) j₁ lo hi low (omega arith) l four (λ q a b. far q a (omega arith)) p r)
   where
@@ -64,9 +64,9 @@ module _ {A : Type 0} (D : ℕ → Type 0) (P : List ℕ → ℕ → A → Type 
   unfolding retiredIn
   retire [] w i zs down few long done left goes =
       let e : zs ++ [] ≡ zs = append-nil zs in (
-        subst (λ (l : List A). Holds P (set w 4 (length zs)) base l) (sym e)
-            (holds-depends D P local w (set w 4 (length zs)) base zs (λ j h k l d. read-other w 4 (base + 32 * j + k) (length zs) (λ q. omega arith)) done),
-        read-same w 4 (length zs) (omega arith) ∙ ap length (sym e),
+        subst (λ (l : List A). Holds P (set w at.objects (length zs)) base l) (sym e)
+            (holds-depends D P local w (set w at.objects (length zs)) base zs (λ j h k l d. read-other w at.objects (base + 32 * j + k) (length zs) (λ q. omega arith)) done),
+        read-same w at.objects (length zs) (omega arith) ∙ ap length (sym e),
       )
   retire (y ∷ ys) w i zs down few long done left goes =
       subst (λ (v : List ℕ). Holds P v base (zs ++ keep f (y ∷ ys)) × (getD v at.objects 0 ≡ length (zs ++ keep f (y ∷ ys))))
@@ -107,11 +107,11 @@ module _ {A : Type 0} (D : ℕ → Type 0) (P : List ℕ → ℕ → A → Type 
           size : length (zs ++ (y ∷ [])) ≡ length zs + 1
           size = length-append zs (y ∷ [])
 
-  module _ (w : List ℕ) (xs : List A) (at : objectsBase w ≡ base) (count : getD w at.objects 0 ≡ length xs) (few : length xs ≤ 4096) (long : base + 32 * length xs ≤ length w) where
+  module _ (w : List ℕ) (xs : List A) (based : objectsBase w ≡ base) (count : getD w at.objects 0 ≡ length xs) (few : length xs ≤ 4096) (long : base + 32 * length xs ≤ length w) where
     retired-is : retired w lo hi ≡ retiredIn (length xs) w base 0 0 lo hi
     unfolding retired objectCount
     retired-is =
-        ap₂ (λ (n p : ℕ). retiredIn (cond (leb n 4096) n 4096) w p 0 0 lo hi) count at
+        ap₂ (λ (n p : ℕ). retiredIn (cond (leb n 4096) n 4096) w p 0 0 lo hi) count based
         ∙ ap (λ (b : Bool). retiredIn (cond b (length xs) 4096) w base 0 0 lo hi) (le-leb (length xs) 4096 few)
 
     pub length-retired : length (retired w lo hi) ≡ length w

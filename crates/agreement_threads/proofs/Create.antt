@@ -96,7 +96,7 @@ module _ (w : List ℕ) (s : State) (a : Agree w s) (v : Valid s) (p : ℕ) wher
       (omega (arith, append-length (s .dispatcher .threads) t)) (λ m. omega (arith, a .shape .ready-standing .within (suc n) m)))
     where
       w₃ : List ℕ
-      w₃ = putThread (putWait (set w 3 (suc (length (s .dispatcher .threads)))) (suc (length (s .dispatcher .threads))) noWait) (suc (length (s .dispatcher .threads))) (storedOf (newThread p))
+      w₃ = putThread (putWait (set w at.threads (suc (length (s .dispatcher .threads)))) (suc (length (s .dispatcher .threads))) noWait) (suc (length (s .dispatcher .threads))) (storedOf (newThread p))
 
       after : State
       after = withDispatcher s (withPlaced (withNew (s .dispatcher) (newThread p)) (s .dispatcher .placed ++ (suc (length (s .dispatcher .threads)) ∷ [])))

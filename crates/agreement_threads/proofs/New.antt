@@ -47,7 +47,7 @@ module _ (w : List ℕ) (s : State) (holder : ℕ → ℕ) (active : ℕ) (a : A
   id = suc (length (s .dispatcher .threads))
 
   abbrev w₁ : List ℕ
-  w₁ = set w 3 id
+  w₁ = set w at.threads id
 
   abbrev w₂ : List ℕ
   w₂ = putWait w₁ id noWait
@@ -65,7 +65,7 @@ module _ (w : List ℕ) (s : State) (holder : ℕ → ℕ) (active : ℕ) (a : A
   long = omega (arith, a .enough, room)
 
   len₁ : length w₁ ≡ length w
-  len₁ = length-set w 3 id
+  len₁ = length-set w at.threads id
 
   len₂ : length w₂ ≡ length w
   len₂ = length-wait w₁ id noWait few′ ∙ len₁
@@ -80,7 +80,7 @@ module _ (w : List ℕ) (s : State) (holder : ℕ → ℕ) (active : ℕ) (a : A
       ∙ wait-writes w₁ id noWait few′ (no-wait-form .few) j (λ o. r (omega (arith, o .here)) (omega (arith, o .here, o .has .to)))
 
   same : (j : ℕ) → (j ≡ 3 → ⊥) → (at.threadFrom id ≤ j → j < at.headerSize + at.threadSize * id → ⊥) → getD w₃ j 0 ≡ getD w j 0
-  same j n r = behind j r ∙ read-other w 3 j id n
+  same j n r = behind j r ∙ read-other w at.threads j id n
 
   size : length (l ++ (t ∷ [])) ≡ id
   size = append-length l t
@@ -90,7 +90,7 @@ module _ (w : List ℕ) (s : State) (holder : ℕ → ℕ) (active : ℕ) (a : A
       (s .dispatcher .current) (s .dispatcher .sequence) (s .now) (s .policy) (s .dpcs .counters) (s .timerInitializations) (s .dpcInitializations) active)) (sym size)
       (row-depends w₁ w₃ 0 (set (headerOf s active) 3 (some id))
       (λ j o. let q : o .word < 26 = says-short (set (headerOf s active) 3 (some id)) (o .word) (o .holds) (o .says) in behind j (λ x y. omega (arith, o .here)))
-      (set-number w s holder active a 3 id (number 3 (omega arith) (λ e. omega arith)) .0))
+      (set-number w s holder active a at.threads id (number at.threads (omega arith) (λ e. omega arith)) .0))
 
   standing : (xs : List ℕ) → Standing n xs → Standing (length (l ++ (t ∷ []))) xs
   standing xs st = record { within = λ y m. let h = st .within y m in (h .0, omega (arith, h .1, size)); once = st .once }
@@ -120,7 +120,7 @@ module _ (w : List ℕ) (s : State) (holder : ℕ → ℕ) (active : ℕ) (a : A
       (subst ThreadFits (sym (append-new l t)) (record { one = one; small = small; wait = tt }))
   of-fit i h k (no ne) = subst ThreadFits (sym (append-old l t i (omega (arith, ne)))) (a .shape .fit i h (omega (arith, ne)))
 
-  pub sim-new : Agreeing (putThread (putWait (set w 3 (suc (length (s .dispatcher .threads)))) (suc (length (s .dispatcher .threads))) noWait) (suc (length (s .dispatcher .threads))) (storedOf (newThread p)))
+  pub sim-new : Agreeing (putThread (putWait (set w at.threads (suc (length (s .dispatcher .threads)))) (suc (length (s .dispatcher .threads))) noWait) (suc (length (s .dispatcher .threads))) (storedOf (newThread p)))
       (withDispatcher s (withNew (s .dispatcher) (newThread p))) holder active
   sim-new = record {
     enough = subst (λ (m : ℕ). at.headerSize + at.threadSize * s .limits .threads + 32 * (s .limits .objects + s .limits .dpcs) ≤ m) (sym len₃) (a .enough);

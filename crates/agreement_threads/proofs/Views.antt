@@ -82,10 +82,10 @@ module _ (w : List ℕ) (s : State) (a : Agree w s) where
         of-result = ap (λ (t : stored.Thread). t .result) e;
         of-status = ap (λ (t : stored.Thread). t .status) e;
         of-wait = λ y q. record {
-          of-all = word-is id one le y q 6 ∙ all-is w s _ _ a id one le y q;
-          of-timed = word-is id one le y q 7 ∙ timed-is w s _ _ a id one le y q;
-          of-deadline = λ t f. word-is id one le y q 8 ∙ deadline-is w s _ _ a id one le y q t f;
-          of-sequence = word-is id one le y q 9 ∙ sequence-is w s _ _ a id one le y q;
+          of-all = word-is id one le y q at.waitAll ∙ all-is w s _ _ a id one le y q;
+          of-timed = word-is id one le y q at.hasDeadline ∙ timed-is w s _ _ a id one le y q;
+          of-deadline = λ t f. word-is id one le y q at.deadline ∙ deadline-is w s _ _ a id one le y q t f;
+          of-sequence = word-is id one le y q at.waitSequence ∙ sequence-is w s _ _ a id one le y q;
           of-count = waited-count id one le y q;
         };
       }

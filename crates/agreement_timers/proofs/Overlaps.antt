@@ -132,10 +132,10 @@ module _ (w : List ℕ) (s : State) (holder : ℕ → ℕ) (active : ℕ) (a : A
   unfolding words.overlapsDpc words.lastDpc
   overlaps-dpc address size =
       let end = endOf address size in
-      let at : ℕ → ℕ → Bool = λ b n. let p : ℕ = cond (eqb n 0) 0 (entryAt b (n - 1)) in cond (eqb size 0) false (cond (eqb p 0) false (overlaps address size (getD w (p + at.address) 0) (dpcSizeAt w p))) in
-      ap (λ (e : ℕ). at (dpcsBase w) (position w (dpcsBase w) (dpcCount w) e)) (end-is address size)
-      ∙ ap (λ (b : ℕ). at b (position w b (dpcCount w) end)) (dpcs-base-is w s holder active a)
-      ∙ ap (at base′) (position-is addressOf w base′ table low′ (omega (arith, dpcs-few w s holder active a)) (a .shape .dpcs .rising) (dpc-keys w s holder active a) (dpcCount w) end (dpc-count-is w s holder active a))
+      let test : ℕ → ℕ → Bool = λ b n. let p : ℕ = cond (eqb n 0) 0 (entryAt b (n - 1)) in cond (eqb size 0) false (cond (eqb p 0) false (overlaps address size (getD w (p + at.address) 0) (dpcSizeAt w p))) in
+      ap (λ (e : ℕ). test (dpcsBase w) (position w (dpcsBase w) (dpcCount w) e)) (end-is address size)
+      ∙ ap (λ (b : ℕ). test b (position w b (dpcCount w) end)) (dpcs-base-is w s holder active a)
+      ∙ ap (test base′) (position-is addressOf w base′ table low′ (omega (arith, dpcs-few w s holder active a)) (a .shape .dpcs .rising) (dpc-keys w s holder active a) (dpcCount w) end (dpc-count-is w s holder active a))
       ∙ ap (λ (b : Bool). cond (eqb size 0) false b) (dpc-range address size (below addressOf end table) (below-le addressOf end table)
       ∙ sym (ap (λ (o : Option Dpc). given o false (λ (d : Dpc). overlaps address size (d .address) (dpcSize (d .architecture)))) (last-dpc end table)))
 

@@ -33,29 +33,29 @@ same-policy : (p : Policy) → eqb (policyNumber p) 0 ≡ isUnselected p
 same-policy unselected = refl
 same-policy (cpu0Dispatch first second) = refl
 
-module _ (w : List ℕ) (place : ℕ) (t : Timer) (row : Row w place (timerRow t)) (at holder : ℕ) (d : Dpc) where
-  own-origin : (o : DpcOrigin) (sequence first second : ℕ) → Row w at (beforeWork holder d 1 ++ (some sequence ∷ some first ∷ some second ∷ originRow o))
-      → cond (eqb (getD w (at + at.origin) 0) 1) (words.ownOrigin w place at) false ≡ isFrom t o
+module _ (w : List ℕ) (place : ℕ) (t : Timer) (row : Row w place (timerRow t)) (stands holder : ℕ) (d : Dpc) where
+  own-origin : (o : DpcOrigin) (sequence first second : ℕ) → Row w stands (beforeWork holder d 1 ++ (some sequence ∷ some first ∷ some second ∷ originRow o))
+      → cond (eqb (getD w (stands + at.origin) 0) 1) (words.ownOrigin w place stands) false ≡ isFrom t o
   unfolding words.ownOrigin words.sameWord
   own-origin origin.Caller sequence first second r =
-      ap (λ (n : ℕ). cond (eqb n 1) (words.ownOrigin w place at) false) (r 14 0 refl)
+      ap (λ (n : ℕ). cond (eqb n 1) (words.ownOrigin w place stands) false) (r 14 0 refl)
   own-origin (origin.Timer address arm initialization deadline observed periodic) sequence first second r =
-      ap (λ (n : ℕ). cond (eqb n 1) (words.ownOrigin w place at) false) (r 14 1 refl)
-      ∙ ap (λ (n : ℕ). cond (eqb n (getD w (place + at.key) 0)) (cond (words.sameWord w (at + at.originArm) (place + at.arm)) (words.sameWord w (at + at.originInitialization) (place + at.initialization)) false) false) (r 15 address refl)
-      ∙ ap (λ (n : ℕ). cond (eqb address n) (cond (words.sameWord w (at + at.originArm) (place + at.arm)) (words.sameWord w (at + at.originInitialization) (place + at.initialization)) false) false) (row 0 (t .address) refl)
-      ∙ ap (λ (n : ℕ). cond (eqb address (t .address)) (cond (eqb n (getD w (place + at.arm) 0)) (words.sameWord w (at + at.originInitialization) (place + at.initialization)) false) false) (r 16 arm refl)
-      ∙ ap (λ (n : ℕ). cond (eqb address (t .address)) (cond (eqb arm n) (words.sameWord w (at + at.originInitialization) (place + at.initialization)) false) false) (row 10 (t .«arm_generation») refl)
+      ap (λ (n : ℕ). cond (eqb n 1) (words.ownOrigin w place stands) false) (r 14 1 refl)
+      ∙ ap (λ (n : ℕ). cond (eqb n (getD w (place + at.key) 0)) (cond (words.sameWord w (stands + at.originArm) (place + at.arm)) (words.sameWord w (stands + at.originInitialization) (place + at.initialization)) false) false) (r 15 address refl)
+      ∙ ap (λ (n : ℕ). cond (eqb address n) (cond (words.sameWord w (stands + at.originArm) (place + at.arm)) (words.sameWord w (stands + at.originInitialization) (place + at.initialization)) false) false) (row 0 (t .address) refl)
+      ∙ ap (λ (n : ℕ). cond (eqb address (t .address)) (cond (eqb n (getD w (place + at.arm) 0)) (words.sameWord w (stands + at.originInitialization) (place + at.initialization)) false) false) (r 16 arm refl)
+      ∙ ap (λ (n : ℕ). cond (eqb address (t .address)) (cond (eqb arm n) (words.sameWord w (stands + at.originInitialization) (place + at.initialization)) false) false) (row 10 (t .«arm_generation») refl)
       ∙ ap (λ (n : ℕ). cond (eqb address (t .address)) (cond (eqb arm (t .«arm_generation»)) (eqb n (getD w (place + at.initialization) 0)) false) false) (r 17 initialization refl)
       ∙ ap (λ (n : ℕ). cond (eqb address (t .address)) (cond (eqb arm (t .«arm_generation»)) (eqb initialization n) false) false) (row 11 (t .initialization) refl)
 
-  own-work : (p : DpcPhase) → Row w at (beforeWork holder d (phaseNumber p) ++ workRow (workOf p)) → words.ownWork w place at ≡ ownQueued t p
+  own-work : (p : DpcPhase) → Row w stands (beforeWork holder d (phaseNumber p) ++ workRow (workOf p)) → words.ownWork w place stands ≡ ownQueued t p
   unfolding words.ownWork
-  own-work Idle r = ap (λ (n : ℕ). cond (eqb n 1) (cond (eqb (getD w (at + at.origin) 0) 1) (words.ownOrigin w place at) false) false) (r 1 0 refl)
+  own-work Idle r = ap (λ (n : ℕ). cond (eqb n 1) (cond (eqb (getD w (stands + at.origin) 0) 1) (words.ownOrigin w place stands) false) false) (r 1 0 refl)
   own-work (Queued x) r =
-      ap (λ (n : ℕ). cond (eqb n 1) (cond (eqb (getD w (at + at.origin) 0) 1) (words.ownOrigin w place at) false) false) (r 1 1 refl)
+      ap (λ (n : ℕ). cond (eqb n 1) (cond (eqb (getD w (stands + at.origin) 0) 1) (words.ownOrigin w place stands) false) false) (r 1 1 refl)
       ∙ own-origin (x .origin) (x .sequence) (x .first) (x .second) r
-  own-work (Running x) r = ap (λ (n : ℕ). cond (eqb n 1) (cond (eqb (getD w (at + at.origin) 0) 1) (words.ownOrigin w place at) false) false) (r 1 2 refl)
-  own-work (Returning x) r = ap (λ (n : ℕ). cond (eqb n 1) (cond (eqb (getD w (at + at.origin) 0) 1) (words.ownOrigin w place at) false) false) (r 1 3 refl)
+  own-work (Running x) r = ap (λ (n : ℕ). cond (eqb n 1) (cond (eqb (getD w (stands + at.origin) 0) 1) (words.ownOrigin w place stands) false) false) (r 1 2 refl)
+  own-work (Returning x) r = ap (λ (n : ℕ). cond (eqb n 1) (cond (eqb (getD w (stands + at.origin) 0) 1) (words.ownOrigin w place stands) false) false) (r 1 3 refl)
 
 module _ (w : List ℕ) (s : State) (holder : ℕ → ℕ) (active : ℕ) (a : Agreeing w s holder active) (k : ℕ) (t : Timer) (e : objectAt (s .dispatcher .objects) k ≡ some (timer t)) where
   row : Row w (placeOf w 2 k) (timerRow t)

@@ -68,14 +68,14 @@ module _ (w : List ℕ) (s : State) (holder : ℕ → ℕ) (active : ℕ) (a : A
   s₂ = withDispatcher s (withSequence (withCurrent (s .dispatcher) 0) (s .dispatcher .sequence + 1))
 
   abbrev w₂ : List ℕ
-  w₂ = set (set w 6 0) 7 (s .dispatcher .sequence + 1)
+  w₂ = set (set w at.current 0) 7 (s .dispatcher .sequence + 1)
 
   leaves : Agreeing w₂ s₂ holder active
-  leaves = sim-sequence (set w 6 0) (withDispatcher s (withCurrent (s .dispatcher) 0)) holder active (sim-current w s holder active a 0) (s .dispatcher .sequence + 1)
+  leaves = sim-sequence (set w at.current 0) (withDispatcher s (withCurrent (s .dispatcher) 0)) holder active (sim-current w s holder active a 0) (s .dispatcher .sequence + 1)
 
   left-is : left w (s .dispatcher .sequence) ≡ w₂
   unfolding left
-  left-is = ap (set (set w 6 0) 7) (let e : (s .dispatcher .sequence + 1) % 2 ^ 64 ≡ s .dispatcher .sequence + 1 = omega arith in e)
+  left-is = ap (set (set w at.current 0) 7) (let e : (s .dispatcher .sequence + 1) % 2 ^ 64 ≡ s .dispatcher .sequence + 1 = omega arith in e)
 
   module _ (y : stored-wait.Wait) (objects : List Named) (all : Bool) (deadline : Option ℕ) (of : Stored y (newWait (s .dispatcher) objects all deadline)) (form : InForm y)
       (fits : WaitFits (newWait (s .dispatcher) objects all deadline)) where

@@ -140,16 +140,16 @@ sim-taken-own holder active id x (n ∷ ns) i q w s a one le e =
 
 module _ (w : List ℕ) (s : State) (holder : ℕ → ℕ) (active : ℕ) (a : Agreeing w s holder active) where
   -- of any, the first available
-  sim-takes-first : (id : ℕ) (src : List ℕ) (at : ℕ) (ns : List Named) → Row src at (placesRow ns) → isMet (s .dispatcher) ns false ≡ true
-      → Agreeing (taken w id (kindIn src at (firstIn (length ns) w src at 0)) (keyIn src at (firstIn (length ns) w src at 0)))
+  sim-takes-first : (id : ℕ) (src : List ℕ) (from : ℕ) (ns : List Named) → Row src from (placesRow ns) → isMet (s .dispatcher) ns false ≡ true
+      → Agreeing (taken w id (kindIn src from (firstIn (length ns) w src from 0)) (keyIn src from (firstIn (length ns) w src from 0)))
       (withTable s (take id (s .dispatcher .objects) (getD ns (firstAvailable (s .dispatcher) ns) noObject))) holder active
-  sim-takes-first id src at ns r met =
+  sim-takes-first id src from ns r met =
       let f = firstAvailable (s .dispatcher) ns in
-      let p = pair-read src at ns f r (ltb-true f (length ns) (first-any w s holder active a src at ns ∙ met)) in
+      let p = pair-read src from ns f r (ltb-true f (length ns) (first-any w s holder active a src from ns ∙ met)) in
       let n : Named = getD ns f noObject in
-      subst (λ (k : ℕ). Agreeing (taken w id (kindIn src at k) (keyIn src at k)) (withTable s (take id (s .dispatcher .objects) n)) holder active)
-      (sym (first-is w s holder active a src at ns r))
-      (subst (λ (k : ℕ). Agreeing (taken w id k (keyIn src at f)) (withTable s (take id (s .dispatcher .objects) n)) holder active) (sym (p .0))
+      subst (λ (k : ℕ). Agreeing (taken w id (kindIn src from k) (keyIn src from k)) (withTable s (take id (s .dispatcher .objects) n)) holder active)
+      (sym (first-is w s holder active a src from ns r))
+      (subst (λ (k : ℕ). Agreeing (taken w id k (keyIn src from f)) (withTable s (take id (s .dispatcher .objects) n)) holder active) (sym (p .0))
       (subst (λ (k : ℕ). Agreeing (taken w id (n .kind) k) (withTable s (take id (s .dispatcher .objects) n)) holder active) (sym (p .1)) (sim-taken w s holder active a id n)))
 
   pub sim-takes-list : (id : ℕ) (src : List ℕ) (ns : List Named) (all : Bool) → Row src 0 (placesRow ns) → isMet (s .dispatcher) ns all ≡ true

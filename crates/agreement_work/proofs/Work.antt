@@ -48,7 +48,7 @@ not-queued limit q v k e = member-not k (q .queue) (v .queued k ∙ e)
 module _ (w : List ℕ) (s : State) (holder : ℕ → ℕ) (active : ℕ) (a : Agreeing w s holder active) where
   -- ---- a duplicate
 
-  pub sim-duplicated : s .dpcs .counters .duplicates < most → Agreeing (words.raised w 14) (withDpcs s (duplicated (s .dpcs))) holder active
+  pub sim-duplicated : s .dpcs .counters .duplicates < most → Agreeing (words.raised w at.duplicates) (withDpcs s (duplicated (s .dpcs))) holder active
   unfolding duplicated
   sim-duplicated h =
       subst (λ (v : List ℕ). Agreeing v (withDpcs s (duplicated (s .dpcs))) holder active)

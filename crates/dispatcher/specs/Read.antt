@@ -4,6 +4,7 @@ use Prim.Native.Nat.{ℕ, _+_, _-_, _^_}
 use mathlib.Core.List.{List}
 use lib.ListN.{getD}
 use lib.Dec.{leb}
+use Rattle.words.specs.Layout as at
 use Rattle.words.specs.Layout.{threadAt}
 use Rattle.threads.specs.Thread.{threadOf, known, countOf, placesAt}
 use Rattle.waits.specs.Lists.{kindIn, keyIn}
@@ -33,10 +34,10 @@ viewOf w id =
       state = t .state;
       result = t .result;
       status = t .status;
-      all = waitWord w id 6;
-      timed = waitWord w id 7;
-      deadline = waitWord w id 8;
-      sequence = waitWord w id 9;
+      all = waitWord w id at.waitAll;
+      timed = waitWord w id at.hasDeadline;
+      deadline = waitWord w id at.deadline;
+      sequence = waitWord w id at.waitSequence;
       count = waitedCount w id;
     }
 

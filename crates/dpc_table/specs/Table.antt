@@ -104,7 +104,7 @@ relinked w =
     set renewed at.queueLast (newNumber renewed (getD renewed at.queueLast 0))
 
 unfoldable pub settled : List ℕ → List ℕ
-settled w = set (compacted w (dpcsBase w) (dpcCount w) 1 9) at.dpcs (compactedTo w (dpcsBase w) (dpcCount w) 1 9)
+settled w = set (compacted w (dpcsBase w) (dpcCount w) at.phase 9) at.dpcs (compactedTo w (dpcsBase w) (dpcCount w) at.phase 9)
 
 unfoldable pub closedUp : List ℕ → List ℕ
 closedUp w = settled (relinked (numbered w))

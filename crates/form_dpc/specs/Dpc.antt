@@ -17,7 +17,7 @@ use Rattle.form_dpc.specs.Place.{keyRises, located}
 use Rattle.form_dpc.specs.Timer.{hasDpc}
 
 unfoldable pub dpcPlaced : List ℕ → ℕ → Bool
-dpcPlaced w place = located w place 4 (dpcSize (architectureOf (getD w (place + at.dpcArchitecture) 0)))
+dpcPlaced w place = located w place at.dpcArchitecture (dpcSize (architectureOf (getD w (place + at.dpcArchitecture) 0)))
 
 -- the origin names no timer
 unfoldable pub namesNoTimer : List ℕ → ℕ → Bool

@@ -24,7 +24,7 @@ timerTimes w place =
     (cond (eqb (getD w (place + at.initialization) 0) 0) false (leb (getD w (place + at.initialization) 0) (getD w at.timerInitializations 0)))
 
 unfoldable pub timerPlaced : List ℕ → ℕ → Bool
-timerPlaced w place = located w place 12 (timerSize (architectureOf (getD w (place + at.timerArchitecture) 0)))
+timerPlaced w place = located w place at.timerArchitecture (timerSize (architectureOf (getD w (place + at.timerArchitecture) 0)))
 
 -- document 01: stored numbers pass their checks, of a timer
 unfoldable pub timerNumbers : List ℕ → ℕ → Bool

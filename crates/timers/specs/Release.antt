@@ -74,7 +74,7 @@ timersMarked w address size = eachIn (objectCount w) (λ v place. timerMarked v 
 -- the objects that are not marked, in their order, and how many there are
 unfoldable pub timersClosed : List ℕ → List ℕ
 timersClosed w =
-    set (compacted w (objectsBase w) (objectCount w) 1 9) at.objects (compactedTo w (objectsBase w) (objectCount w) 1 9)
+    set (compacted w (objectsBase w) (objectCount w) at.kind 9) at.objects (compactedTo w (objectsBase w) (objectCount w) at.kind 9)
 
 unfoldable pub dpcMarked : List ℕ → ℕ → ℕ → ℕ → List ℕ
 dpcMarked w place address size = cond (dpcStands w place address size) (set w (place + at.phase) 9) w

@@ -3,6 +3,7 @@ use mathlib.Core.Path.{_≡_}
 use Prim.Native.Nat.{_+_}
 use lib.ListN.{getD}
 use borrow.Author.Tests.{eq-eqb, ne-eqb}
+use Rattle.words.specs.Layout as at
 use Rattle.expiry.specs.Check.{isOwn}
 use borrow.Author.Needs.{needs}
 use Rattle.expiry.proofs.check.is_own.Statement.{statement}
@@ -22,9 +23,9 @@ returns-3 c = simp (← (c .before .before .before .before .before .before .befo
 
 returns-4 : tie.Need-returns-4
 unfolding isOwn
-returns-4 c = let a : getD (now (c .before .before .before .before .before .before .before .before .before .before .before .args .w)) (c .before .before .before .before .before .before .before .before .before .before .before .args .p + 14) 0 ≡ 1 = cc in
-    let b : getD (now (c .before .before .before .before .before .before .before .before .before .before .before .args .w)) (c .before .before .before .before .before .before .before .before .before .before .before .args .p + 15) 0 ≡ getD (now (c .before .before .before .before .before .before .before .before .before .before .before .args .w)) (c .before .before .before .before .before .before .before .before .before .before .before .args .at + 0) 0 = cc in
-    let d : getD (now (c .before .before .before .before .before .before .before .before .before .before .before .args .w)) (c .before .before .before .before .before .before .before .before .before .before .before .args .p + 16) 0 ≡ getD (now (c .before .before .before .before .before .before .before .before .before .before .before .args .w)) (c .before .before .before .before .before .before .before .before .before .before .before .args .at + 10) 0 = cc in simp (eq-eqb _ _ a, eq-eqb _ _ b, eq-eqb _ _ d) (cc)
+returns-4 c = let a : getD (now (c .before .before .before .before .before .before .before .before .before .before .before .args .w)) (c .before .before .before .before .before .before .before .before .before .before .before .args .p + at.origin) 0 ≡ 1 = cc in
+    let b : getD (now (c .before .before .before .before .before .before .before .before .before .before .before .args .w)) (c .before .before .before .before .before .before .before .before .before .before .before .args .p + at.originTimer) 0 ≡ getD (now (c .before .before .before .before .before .before .before .before .before .before .before .args .w)) (c .before .before .before .before .before .before .before .before .before .before .before .args .at + at.key) 0 = cc in
+    let d : getD (now (c .before .before .before .before .before .before .before .before .before .before .before .args .w)) (c .before .before .before .before .before .before .before .before .before .before .before .args .p + at.originArm) 0 ≡ getD (now (c .before .before .before .before .before .before .before .before .before .before .before .args .w)) (c .before .before .before .before .before .before .before .before .before .before .before .args .at + at.arm) 0 = cc in simp (eq-eqb _ _ a, eq-eqb _ _ b, eq-eqb _ _ d) (cc)
 
 pub is-own-spec : {M : Type 1} → statement M
 is-own-spec =
