@@ -64,8 +64,8 @@ storedOrigin (origin.Timer address arm initialization deadline observed periodic
 
 abbrev pub workStores : ℕ → ℕ → ℕ → Origin → List Store
 workStores sequence first second o =
-    store 1 1 ∷ store 11 sequence ∷ store 12 first ∷ store 13 second ∷ store 14 (o .timer) ∷ store 15 (o .address) ∷ store 16 (o .arm) ∷ store 17 (o .initialization)
-    ∷ store 18 (o .deadline) ∷ store 19 (o .observed) ∷ store 20 (o .periodic) ∷ []
+    store at.phase 1 ∷ store at.workSequence sequence ∷ store at.workArgument first ∷ store at.workArgument2 second ∷ store at.origin (o .timer) ∷ store at.originTimer (o .address) ∷ store at.originArm (o .arm) ∷ store at.originInitialization (o .initialization)
+    ∷ store at.originDeadline (o .deadline) ∷ store at.originObserved (o .observed) ∷ store at.originPeriodic (o .periodic) ∷ []
 
 pub put-work : (w : List ℕ) (place sequence first second : ℕ) (o : Origin) → originPut (workPut w place sequence first second) place o ≡ written w place (workStores sequence first second o)
 unfolding originPut workPut
@@ -136,7 +136,7 @@ module _ (w : List ℕ) (s : State) (holder : ℕ → ℕ) (active : ℕ) (a : A
       (in-phase p (set w (place + at.phase) (phaseNumber p))
       (subst (λ (b : ℕ). Agreeing (set w (dpcsFrom (s .limits) + 32 * below addressOf b (s .dpcs .table) + at.phase) (phaseNumber p))
       (withDpcs s (record { table = putDpc (inPhase d p) (s .dpcs .table); queue = s .dpcs .queue; counters = s .dpcs .counters })) holder active) named
-      (sim-put-dpc w s holder active a d (inPhase d p) holder (store 1 (phaseNumber p) ∷ []) (ap (dpcAt (s .dpcs .table)) named ∙ e) (λ b n. refl) (unlinked 1 (omega arith) (λ q. omega arith), tt)
+      (sim-put-dpc w s holder active a d (inPhase d p) holder (store at.phase (phaseNumber p) ∷ []) (ap (dpcAt (s .dpcs .table)) named ∙ e) (λ b n. refl) (unlinked 1 (omega arith) (λ q. omega arith), tt)
       (subst (λ (b : ℕ). Row (set w (dpcsFrom (s .limits) + 32 * below addressOf b (s .dpcs .table) + at.phase) (phaseNumber p)) (dpcsFrom (s .limits) + 32 * below addressOf b (s .dpcs .table)) (dpcRow (holder (d .address)) (inPhase d p))) (sym named)
       (phase-row w place (holder (d .address)) d p (omega (arith, long)) same (dpc-row w s holder active a k d e))))))
 
@@ -161,7 +161,7 @@ module _ (w : List ℕ) (s : State) (holder : ℕ → ℕ) (active : ℕ) (a : A
   pub sim-holder : (v : ℕ) (holder′ : ℕ → ℕ) → holder′ k ≡ v → ((b : ℕ) → (b ≡ k → ⊥) → holder′ b ≡ holder b) → Agreeing (set w (dpcFound w k + at.namedBy) v) s holder′ active
   sim-holder v holder′ own others =
       subst (λ (b : ℕ). Agreeing (set w (b + at.namedBy) v) s holder′ active) (sym (dpc-place w s holder active a k d e))
-      (sim-dpc w s holder active a (below addressOf k (s .dpcs .table)) d (s .dpcs .table) holder′ (store 3 v ∷ []) (find-in addressOf (s .dpcs .table) (a .shape .dpcs .rising) k d e)
+      (sim-dpc w s holder active a (below addressOf k (s .dpcs .table)) d (s .dpcs .table) holder′ (store at.namedBy v ∷ []) (find-in addressOf (s .dpcs .table) (a .shape .dpcs .rising) k d e)
       (find-at addressOf (s .dpcs .table) (a .shape .dpcs .rising) k d e) (λ j n. refl) refl (λ j x n q. others (x .address) (λ z. n (position j x q z))) refl (a .shape .dpcs)
       (unlinked 3 (omega arith) (λ q. omega arith), tt)
       (subst (λ (h : ℕ). Row (set w (place + at.namedBy) v) place (dpcRow h d)) (sym (ap holder′ named ∙ own)) (row-set w place (dpcRow (holder (d .address)) d) 3 v (omega (arith, long)) (dpc-row w s holder active a k d e))))

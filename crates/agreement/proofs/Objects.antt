@@ -52,14 +52,14 @@ module _ (w : List ℕ) (s : State) (holder : ℕ → ℕ) (active : ℕ) (a : A
       → Agreeing (set w (placeOf w 0 (m .key) + at.owner) id) (withTable s (putObject (ownedBy id m) (s .dispatcher .objects))) holder active
   sim-owner m id e =
       subst (λ (p : ℕ). Agreeing (set w (p + at.owner) id) (withTable s (putObject (ownedBy id m) (s .dispatcher .objects))) holder active) (sym (object-place w s holder active a (m .key) (mutex m) e))
-      (sim-put-object (mutex m) (ownedBy id m) (store 4 id ∷ []) e tt (omega arith, tt) refl)
+      (sim-put-object (mutex m) (ownedBy id m) (store at.owner id ∷ []) e tt (omega arith, tt) refl)
 
   -- an event is signaled or not
   pub sim-signal : (v : Event) (b : Bool) → objectAt (s .dispatcher .objects) (v .key) ≡ some (event v)
       → Agreeing (set w (placeOf w 1 (v .key) + at.signaled) (flag b)) (withTable s (putObject (signaledAs b v) (s .dispatcher .objects))) holder active
   sim-signal v b e =
       subst (λ (p : ℕ). Agreeing (set w (p + at.signaled) (flag b)) (withTable s (putObject (signaledAs b v) (s .dispatcher .objects))) holder active) (sym (object-place w s holder active a (v .key) (event v) e))
-      (sim-put-object (event v) (signaledAs b v) (store 3 (flag b) ∷ []) e tt (omega arith, tt) refl)
+      (sim-put-object (event v) (signaledAs b v) (store at.signaled (flag b) ∷ []) e tt (omega arith, tt) refl)
 
   -- and a timer
   pub sim-timer-signal : (t : Timer) (b : Bool) → objectAt (s .dispatcher .objects) (t .address) ≡ some (timer t)
@@ -67,7 +67,7 @@ module _ (w : List ℕ) (s : State) (holder : ℕ → ℕ) (active : ℕ) (a : A
   sim-timer-signal t b e =
       subst (λ (p : ℕ). Agreeing (set w (p + at.signaled) (flag b)) (withTable s (putObject (timer (withSignal t b)) (s .dispatcher .objects))) holder active)
       (sym (object-place w s holder active a (t .address) (timer t) e))
-      (sim-put-object (timer t) (timer (withSignal t b)) (store 3 (flag b) ∷ []) e (a .shape .bounded (t .address) (timer t) e) (omega arith, tt) refl)
+      (sim-put-object (timer t) (timer (withSignal t b)) (store at.signaled (flag b) ∷ []) e (a .shape .bounded (t .address) (timer t) e) (omega arith, tt) refl)
 
   -- ---- DPCs
 

@@ -39,18 +39,18 @@ pub record Front (w : List ℕ) (s : State) (active : ℕ) : Type 0 where
   pub waiters : Holds w waitersChain (s .dispatcher .waiters)
 
 module _ (w : List ℕ) (s : State) (holder : ℕ → ℕ) (active : ℕ) (a : Agreeing w s holder active) where
-  -- words 23 and 24, the ends of the DPC queue, are none of it
-  pub front-stays : (w′ : List ℕ) → Same (λ j. (j < at.headerSize + at.threadSize * s .limits .threads) × (j ≡ 23 → ⊥) × (j ≡ 24 → ⊥)) w w′ → Front w′ s active
+  -- the ends of the DPC queue are none of it
+  pub front-stays : (w′ : List ℕ) → Same (λ j. (j < at.headerSize + at.threadSize * s .limits .threads) × (j ≡ at.queueFirst → ⊥) × (j ≡ at.queueLast → ⊥)) w w′ → Front w′ s active
   front-stays w′ same = record {
     numbers = numbers-depend w w′ s active (λ j h. same j (omega (arith, h .small), λ e. h .no-end (omega arith) (omega arith), λ e. h .no-end (omega arith) (omega arith))) (a .numbers);
     threads = threads-depend w w′ (s .dispatcher .threads) (λ j f. same j (omega (arith, f .here, f .has .small, f .le, fit), λ e. omega (arith, f .here), λ e. omega (arith, f .here))) (a .threads);
     waits = waits-depend w w′ (s .dispatcher .threads) (a .shape .fit) (λ j f. same j (omega (arith, f .here, f .has .to, f .le, fit), λ e. omega (arith, f .here), λ e. omega (arith, f .here))) (a .waits);
     queues = queues-depend w w′ (s .dispatcher .threads) (s .dispatcher .placed) (threads-few w s holder active a) (a .shape .ready-standing)
-        (λ j r. same j (ready-cases ((j < at.headerSize + at.threadSize * s .limits .threads) × (j ≡ 23 → ⊥) × (j ≡ 24 → ⊥)) n j r
+        (λ j r. same j (ready-cases ((j < at.headerSize + at.threadSize * s .limits .threads) × (j ≡ at.queueFirst → ⊥) × (j ≡ at.queueLast → ⊥)) n j r
         (λ e. (omega arith, λ q. omega arith, λ q. omega arith)) (λ x y. (omega arith, λ q. omega arith, λ q. omega arith))
         (λ l. (omega (arith, l .here, l .le, fit), λ q. omega (arith, l .here), λ q. omega (arith, l .here))))) (a .queues);
     waiters = waiters-depend w w′ n (s .dispatcher .waiters) (threads-few w s holder active a) (a .shape .waiting-standing)
-        (λ j r. same j (waiter-cases ((j < at.headerSize + at.threadSize * s .limits .threads) × (j ≡ 23 → ⊥) × (j ≡ 24 → ⊥)) n j r
+        (λ j r. same j (waiter-cases ((j < at.headerSize + at.threadSize * s .limits .threads) × (j ≡ at.queueFirst → ⊥) × (j ≡ at.queueLast → ⊥)) n j r
         (λ e. (omega arith, λ q. omega arith, λ q. omega arith)) (λ e. (omega arith, λ q. omega arith, λ q. omega arith))
         (λ l. (omega (arith, l .here, l .le, fit), λ q. omega (arith, l .here), λ q. omega (arith, l .here))))) (a .waiters);
   }

@@ -20,7 +20,7 @@ use Rattle.agreement.proofs.Places.{thread-place, Scalar, Waiting}
 -- ---- a thread
 
 abbrev pub threadStores : stored.Thread → List Store
-threadStores t = store 0 (t .priority) ∷ store 1 (t .state) ∷ store 4 (t .result) ∷ store 5 (t .status) ∷ []
+threadStores t = store at.priority (t .priority) ∷ store at.state (t .state) ∷ store at.result (t .result) ∷ store at.status (t .status) ∷ []
 
 pub thread-stores : (t : stored.Thread) → In Scalar (threadStores t)
 thread-stores t = (
@@ -88,7 +88,7 @@ term-stores x = (
     one : (k : ℕ) → at.waitAll ≤ k → k < at.threadSize → Waiting k
     one k a b = record { from = a; to = b }
 
--- a wait of at most 64 places is written in words 6 to 159 of its thread's record
+-- a wait of at most 64 places is written in its thread's record from `waitAll` on
 pub wait-outside : (R : ℕ → Type 0) (w : List ℕ) (id : ℕ) (x : stored-wait.Wait) → id ≤ at.mostThreads → x .count ≤ 64 → ((d : ℕ) → Waiting d → R (at.threadFrom id + d) → ⊥) → Same R w (putWait w id x)
 wait-outside R w id x h few n j r = ap (λ (v : List ℕ). getD v j 0) (put-wait w id x h)
     ∙ written-outside R (λ k. k < 128) (written w (at.threadFrom id) (termStores x)) (at.threadWord at.waitPlaces id) (placeStores (2 * x .count) (x .places) 0)
@@ -104,7 +104,7 @@ length-wait w id x h = ap (λ (v : List ℕ). length v) (put-wait w id x h)
 -- ---- an object, a DPC: place + 0 is the place
 
 abbrev pub objectStores : ℕ → stored-object.Object → List Store
-objectStores key o = store 0 key ∷ store 1 (o .kind) ∷ store 2 (o .manual) ∷ store 3 (o .signaled) ∷ store 4 (o .owner) ∷ []
+objectStores key o = store at.key key ∷ store at.kind (o .kind) ∷ store at.manual (o .manual) ∷ store at.signaled (o .signaled) ∷ store at.owner (o .owner) ∷ []
 
 pub put-object : (w : List ℕ) (place key : ℕ) (o : stored-object.Object) → putObject w place key o ≡ written w place (objectStores key o)
 unfolding putObject
@@ -114,8 +114,8 @@ put-object w place key o =
 
 abbrev pub dpcStores : ℕ → NewDpc → List Store
 dpcStores address d =
-    store 0 address ∷ store 1 0 ∷ store 2 0 ∷ store 3 0 ∷ store 4 (d .architecture) ∷ store 5 (d .backing) ∷ store 6 (d .base) ∷ store 7 (d .size)
-    ∷ store 8 (d .mapped) ∷ store 9 (d .routine) ∷ store 10 (d .context) ∷ []
+    store at.address address ∷ store at.phase 0 ∷ store at.nextQueued 0 ∷ store at.namedBy 0 ∷ store at.dpcArchitecture (d .architecture) ∷ store at.dpcBacking (d .backing) ∷ store at.dpcBase (d .base) ∷ store at.dpcSize (d .size)
+    ∷ store at.dpcMapped (d .mapped) ∷ store at.routine (d .routine) ∷ store at.context (d .context) ∷ []
 
 pub put-dpc : (w : List ℕ) (place address : ℕ) (d : NewDpc) → putDpc w place address d ≡ written w place (dpcStores address d)
 unfolding putDpc putImage putIdle

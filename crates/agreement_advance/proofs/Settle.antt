@@ -66,7 +66,7 @@ module _ (w : List ℕ) (s : State) (active : ℕ) (a : Agreeing w s (holderOf (
   again : (due : ℕ) → due ≤ most → Agreeing (set (set w (place + at.signaled) 1) (place + at.due) due) (withTable s (putObject (timer (retimed t true true due)) objects)) (holderOf (putObject (timer (retimed t true true due)) objects)) active
   again due h =
       agreeing-same (set (set w (place + at.signaled) 1) (place + at.due) due) (withTable s (putObject (timer (retimed t true true due)) objects)) (holderOf objects) active
-      (sim-put-object w s (holderOf objects) active a (timer t) (timer (retimed t true true due)) (store 3 1 ∷ store 6 due ∷ []) e (fits due h) (omega arith, (omega arith, tt))
+      (sim-put-object w s (holderOf objects) active a (timer t) (timer (retimed t true true due)) (store at.signaled 1 ∷ store at.due due ∷ []) e (fits due h) (omega arith, (omega arith, tt))
       (ap (λ (b : Bool). timerRow (retimed t true b due)) i))
       (holderOf (putObject (timer (retimed t true true due)) objects)) (λ b n. holder-same objects (a .shape .rising) (retimed t true true due) t e (sym i) refl b)
 
@@ -82,7 +82,7 @@ module _ (w : List ℕ) (s : State) (active : ℕ) (a : Agreeing w s (holderOf (
   after = withTable s (putObject (timer (retimed t true false (t .due))) (s .dispatcher .objects))
 
   taken : Agreeing out after (holderOf objects) active
-  taken = sim-put-object w s (holderOf objects) active a (timer t) (timer once) (store 3 1 ∷ store 5 0 ∷ []) e (fits (t .due) (a .shape .bounded (t .address) (timer t) e .1)) (omega arith, (omega arith, tt)) refl
+  taken = sim-put-object w s (holderOf objects) active a (timer t) (timer once) (store at.signaled 1 ∷ store at.inserted 0 ∷ []) e (fits (t .due) (a .shape .bounded (t .address) (timer t) e .1)) (omega arith, (omega arith, tt)) refl
 
   -- the DPC, where the words look for it
   dpc-read : getD out (place + at.timerDpc) 0 ≡ t .dpc

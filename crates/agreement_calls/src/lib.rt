@@ -1,1 +1,1 @@
-// No code: the theorem over every list of calls is in specs/ (its statement) and proofs/.
+// No code: agreement of every call, in proofs/.

@@ -67,14 +67,14 @@ module _ (base : ℕ) (near : base ≤ 1000000) (v : List ℕ) (i last : ℕ) (f
       go true true q = absurd (not-both (sym q))
       go false false q = absurd (not-both q)
 
-  put-other : (j : ℕ) → (j ≡ base + 32 * i + 21 → ⊥) → getD (numberPut v (entryAt base i) last) j 0 ≡ getD v j 0
+  put-other : (j : ℕ) → (j ≡ base + 32 * i + at.newNumber → ⊥) → getD (numberPut v (entryAt base i) last) j 0 ≡ getD v j 0
   put-other j ne = ap (λ (u : List ℕ). getD u j 0) put-is ∙ go marked
     where
       go : (m : Bool) → getD (cond m v (set v (base + 32 * i + at.newNumber) (last + 1))) j 0 ≡ getD v j 0
       go true = refl
       go false = read-other v (base + 32 * i + at.newNumber) j (last + 1) ne
 
-  put-same : stays v base i ≡ true → base + 32 * i + 21 < length v → getD (numberPut v (entryAt base i) last) (base + 32 * i + at.newNumber) 0 ≡ suc last
+  put-same : stays v base i ≡ true → base + 32 * i + at.newNumber < length v → getD (numberPut v (entryAt base i) last) (base + 32 * i + at.newNumber) 0 ≡ suc last
   unfolding marked
   put-same s inside = ap (λ (u : List ℕ). getD u (base + 32 * i + at.newNumber) 0) put-is ∙ go marked s
     where
@@ -161,7 +161,7 @@ module _ (w : List ℕ) (near : dpcsBase w ≤ 1000000) (long : dpcsBase w + 32 
       low : at.unused ≤ dpcsBase w
       low = base-least w
 
-      go : (i : ℕ) → (dpcsBase w + 32 * i + 21 ≡ at.queueLast) ⊎ ((dpcsBase w + 32 * i + 21 ≡ at.queueFirst) ⊎ ((y : ℕ) × (1 ≤ y) × (y ≤ n) × (dpcsBase w + 32 * i + 21 ≡ dpcsBase w - at.queueLinkBefore + 32 * y))) → ⊥
+      go : (i : ℕ) → (dpcsBase w + 32 * i + at.newNumber ≡ at.queueLast) ⊎ ((dpcsBase w + 32 * i + at.newNumber ≡ at.queueFirst) ⊎ ((y : ℕ) × (1 ≤ y) × (y ≤ n) × (dpcsBase w + 32 * i + at.newNumber ≡ dpcsBase w - at.queueLinkBefore + 32 * y))) → ⊥
       go i (inl e) = omega (arith, low)
       go i (inr (inl e)) = omega (arith, low)
       go i (inr (inr (y, o, k, e))) = omega (arith, low)

@@ -58,7 +58,7 @@ module _ (w : List ℕ) where
 
   -- ---- chains
 
-  -- at most `k` records from `at` on
+  -- at most `k` records from `next` on
   unfoldable pub chainFrom : ℕ → Chain → ℕ → List ℕ
   chainFrom zero c next = []
   chainFrom (suc k) c next = cond (eqb next 0) [] (next ∷ chainFrom k c (nextOf w c next))

@@ -50,8 +50,8 @@ use Rattle.agreement_objects.proofs.Overlaps.{place-refusal}
 -- the words behind those of every object
 abbrev restStores : Architecture → TimerBacking → ℕ → List Store
 restStores a b n =
-    store 5 0 ∷ store 6 0 ∷ store 7 0 ∷ store 8 0 ∷ store 9 0 ∷ store 10 0 ∷ store 12 (architectureNumber a) ∷ store 13 (backingKind b) ∷ store 14 (backingBase b) ∷ store 15 (backingSize b)
-    ∷ store 16 (backingMapped b) ∷ store 11 n ∷ []
+    store at.inserted 0 ∷ store at.due 0 ∷ store at.period 0 ∷ store at.timerDpc 0 ∷ store at.absolute 0 ∷ store at.arm 0 ∷ store at.timerArchitecture (architectureNumber a) ∷ store at.timerBacking (backingKind b) ∷ store at.timerBase (backingBase b) ∷ store at.timerSize (backingSize b)
+    ∷ store at.timerMapped (backingMapped b) ∷ store at.initialization n ∷ []
 
 rest-in : (a : Architecture) (b : TimerBacking) (n : ℕ) → In Any (restStores a b n)
 rest-in a b n = (

@@ -22,32 +22,32 @@ pub queue-first : (base : ℕ) → linkAt (queueOf base) 0 ≡ at.queueFirst
 unfolding linkAt
 queue-first base = refl
 
--- the link of DPC `i + 1` is word 2 of record `i`
-pub queue-link : (base : ℕ) → at.headerSize ≤ base → (i : ℕ) → i < 4096 → linkAt (queueOf base) (suc i) ≡ base + 32 * i + 2
+-- the link of DPC `i + 1` stands in record `i`
+pub queue-link : (base : ℕ) → at.headerSize ≤ base → (i : ℕ) → i < 4096 → linkAt (queueOf base) (suc i) ≡ base + 32 * i + at.nextQueued
 unfolding linkAt
 queue-link base high i h =
     ap₂ (λ (a b : Bool). cond a at.queueFirst (cond b (base - at.queueLinkBefore + 32 * suc i) at.queueFirst)) (ne-eqb (suc i) 0 (λ e. omega arith)) (le-leb (suc i) 4096 (omega arith))
-    ∙ (let z : base - at.queueLinkBefore + 32 * suc i ≡ base + 32 * i + 2 = omega arith in z)
+    ∙ (let z : base - at.queueLinkBefore + 32 * suc i ≡ base + 32 * i + at.nextQueued = omega arith in z)
 
 pub queue-is : (w : List ℕ) (base : ℕ) → dpcsBase w ≡ base → queueChain w ≡ queueOf base
 unfolding queueChain
 queue-is w base based = ap queueOf based
 
--- by cases: the first, or word 2 of a record
-pub queue-place : (base : ℕ) → at.headerSize ≤ base → (Q : ℕ → Type 0) (y : ℕ) → y ≤ 4096 → (y ≡ 0 → Q 23) → ((t : ℕ) → y ≡ suc t → Q (base + 32 * t + 2)) → Q (linkAt (queueOf base) y)
+-- by cases: the first, or the link of a record
+pub queue-place : (base : ℕ) → at.headerSize ≤ base → (Q : ℕ → Type 0) (y : ℕ) → y ≤ 4096 → (y ≡ 0 → Q at.queueFirst) → ((t : ℕ) → y ≡ suc t → Q (base + 32 * t + at.nextQueued)) → Q (linkAt (queueOf base) y)
 queue-place base high Q zero h first link = subst Q (sym (queue-first base)) (first refl)
 queue-place base high Q (suc t) h first link = subst Q (sym (queue-link base high t (omega arith))) (link t refl)
 
 pub queue-apart : (base : ℕ) → at.headerSize ≤ base → (y z : ℕ) → y ≤ 4096 → z ≤ 4096 → linkAt (queueOf base) y ≡ linkAt (queueOf base) z → y ≡ z
 queue-apart base high y z hy hz = queue-place base high (λ p. p ≡ linkAt (queueOf base) z → y ≡ z) y hy
-    (λ e. queue-place base high (λ p. 23 ≡ p → y ≡ z) z hz (λ q i. e ∙ sym q) (λ t q i. absurd (omega arith)))
-    (λ t e. queue-place base high (λ p. base + 32 * t + 2 ≡ p → y ≡ z) z hz (λ q i. absurd (omega arith)) (λ u q i. omega arith))
+    (λ e. queue-place base high (λ p. at.queueFirst ≡ p → y ≡ z) z hz (λ q i. e ∙ sym q) (λ t q i. absurd (omega arith)))
+    (λ t e. queue-place base high (λ p. base + 32 * t + at.nextQueued ≡ p → y ≡ z) z hz (λ q i. absurd (omega arith)) (λ u q i. omega arith))
 
 pub link-first : (w : List ℕ) → linkAt (queueChain w) 0 ≡ at.queueFirst
 unfolding linkAt queueChain
 link-first w = refl
 
-pub link-of : (w : List ℕ) (base : ℕ) → dpcsBase w ≡ base → at.headerSize ≤ base → (i : ℕ) → i < 4096 → linkAt (queueChain w) (suc i) ≡ base + 32 * i + 2
+pub link-of : (w : List ℕ) (base : ℕ) → dpcsBase w ≡ base → at.headerSize ≤ base → (i : ℕ) → i < 4096 → linkAt (queueChain w) (suc i) ≡ base + 32 * i + at.nextQueued
 link-of w base based high i h = ap (λ (c : Chain). linkAt c (suc i)) (queue-is w base based) ∙ queue-link base high i h
 
 -- ---- `m` links from that of `k` on
@@ -111,7 +111,7 @@ module _ (w : List ℕ) (base n i : ℕ) (based : dpcsBase w ≡ base) (high : a
   module _ (long : base + 32 * n ≤ length w) (enough : 25 ≤ length w) where
     place : ℕ → ℕ
     place zero = 23
-    place (suc t) = base + 32 * t + 2
+    place (suc t) = base + 32 * t + at.nextQueued
 
     places : (t : ℕ) → t < n + 1 → linkAt (queueChain w) t ≡ place t
     unfolding place

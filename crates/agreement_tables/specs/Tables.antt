@@ -25,11 +25,11 @@ Whole k = Unit
 
 -- every word but the link of a queue
 abbrev pub NoLink : ℕ → Type 0
-NoLink k = k ≡ 2 → ⊥
+NoLink k = k ≡ at.nextQueued → ⊥
 
 -- every word but the link and the new number
 abbrev pub NoNumber : ℕ → Type 0
-NoNumber k = (k ≡ 2 → ⊥) × (k ≡ 21 → ⊥)
+NoNumber k = (k ≡ at.nextQueued → ⊥) × (k ≡ at.newNumber → ⊥)
 
 -- the record at place `b` of `w′` has the words `D` of the one at place `a` of `w`
 abbrev pub Copied : (ℕ → Type 0) → List ℕ → ℕ → List ℕ → ℕ → Type 0

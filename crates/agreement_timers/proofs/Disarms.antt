@@ -134,6 +134,6 @@ module _ (w : List ℕ) (s : State) (a : Agree w s) (v : Valid s) (k : ℕ) (t :
       subst (λ (n : ℕ). Agreeing (set w₂ (place + at.inserted) 0) s₂ (holderOf (putObject (timer (cancelled t)) (s .dispatcher .objects))) n) (sym (work-active own q))
       (agreeing-same (set w₂ (place + at.inserted) 0) s₂ without active
       (subst (λ (n : ℕ). Agreeing (set w₂ (objectsFrom (s .limits) + 32 * below keyOf n (s .dispatcher .objects) + at.inserted) 0) s₂ without active) named
-      (sim-put-object w₂ s₁ without active (sim-unnamed w₁ s₁ holder active (work-agrees own q) k t e) (timer t) (timer (cancelled t)) (store 5 0 ∷ [])
+      (sim-put-object w₂ s₁ without active (sim-unnamed w₁ s₁ holder active (work-agrees own q) k t e) (timer t) (timer (cancelled t)) (store at.inserted 0 ∷ [])
       (ap (objectAt (s .dispatcher .objects)) named ∙ e) (a .shape .bounded k (timer t) e) (omega arith, tt) refl))
       (holderOf (putObject (timer (cancelled t)) (s .dispatcher .objects))) after)

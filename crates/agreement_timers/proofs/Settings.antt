@@ -7,6 +7,7 @@ use mathlib.Core.Path.{_≡_, refl, sym, ap, _∙_, subst}
 use native.Mathlib.Omega.{arith}
 use lib.Dec.{eqb}
 use borrow.Author.Tests.{eqb-true, eqb-false}
+use Rattle.words.specs.Layout as at
 use Rattle.images.specs.declared.Timer.{Timer}
 use Rattle.arming.specs.declared.Setting.{Setting}
 use Rattle.arming.specs.Arm as words
@@ -30,7 +31,7 @@ use Rattle.agreement_timers.proofs.Naming.{sim-named, sim-unnamed}
 -- ---- the record
 
 abbrev stores : Setting → List Store
-stores x = store 3 0 ∷ store 5 1 ∷ store 6 (x .due) ∷ store 7 (x .period) ∷ store 8 (x .dpc) ∷ store 9 (x .absolute) ∷ store 10 (x .arm) ∷ []
+stores x = store at.signaled 0 ∷ store at.inserted 1 ∷ store at.due (x .due) ∷ store at.period (x .period) ∷ store at.timerDpc (x .dpc) ∷ store at.absolute (x .absolute) ∷ store at.arm (x .arm) ∷ []
 
 put-setting : (w : List ℕ) (place : ℕ) (x : Setting) → words.settingPut w place x ≡ written w place (stores x)
 unfolding words.settingPut

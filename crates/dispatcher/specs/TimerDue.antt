@@ -1,5 +1,4 @@
--- The timers that a dispatch counts when it says what to advance to. Word 0 of an object's record is its key, 1 its kind (2 a
--- timer), 3 signaled, 5 inserted, 6 the due, 8 the DPC.
+-- The timers that a dispatch counts when it says what to advance to. Kind 2 is a timer.
 use mathlib.Core.Bool.{Bool, cond, true, false}
 use Prim.Native.Nat.{ℕ, zero, suc, _+_}
 use mathlib.Core.List.{List}

@@ -144,5 +144,5 @@ pub fn queued_dpcs(w: &[u64], position: u64) -> Answer
     if n == 0 {
         return Answer::None;
     }
-    Answer::Count(words::get_in(w, record::place(w, n), layout::KEY))
+    Answer::Count(words::get_in(w, record::place(w, n), layout::ADDRESS))
 }

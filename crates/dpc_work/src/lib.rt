@@ -181,7 +181,7 @@ fn start_refusal(w: &[u64], address: u64) -> u64
     if n == 0 {
         return 22;
     }
-    if words::get_in(w, record::place(w, n), layout::KEY) != address {
+    if words::get_in(w, record::place(w, n), layout::ADDRESS) != address {
         return 22;
     }
     0

@@ -84,13 +84,13 @@ unfoldable pub kept : List ℕ → ℕ → ℕ → ℕ → ℕ → ℕ → List 
 kept w base i j lo hi = cond (isRetired w (entryAt base i) lo hi) w (moved w base i j)
 
 unfoldable pub keptTo : List ℕ → ℕ → ℕ → ℕ → ℕ → ℕ → ℕ
-keptTo w base i j lo hi = cond (isRetired w (entryAt base i) lo hi) j (j + at.kind)
+keptTo w base i j lo hi = cond (isRetired w (entryAt base i) lo hi) j (j + 1)
 
 -- `m` records from record `i` on, of which those that stay go to `j` and on; then the count
 unfoldable pub retiredIn : ℕ → List ℕ → ℕ → ℕ → ℕ → ℕ → ℕ → List ℕ
 retiredIn zero w base i j lo hi = set w at.objects j
 retiredIn (suc m) w base i j lo hi =
-    cond (isRetired w (entryAt base i) lo hi) (retiredIn m w base (i + 1) j lo hi) (retiredIn m (moved w base i j) base (i + 1) (j + at.kind) lo hi)
+    cond (isRetired w (entryAt base i) lo hi) (retiredIn m w base (i + 1) j lo hi) (retiredIn m (moved w base i j) base (i + 1) (j + 1) lo hi)
 
 unfoldable pub retired : List ℕ → ℕ → ℕ → List ℕ
 retired w lo hi = retiredIn (objectCount w) w (objectsBase w) 0 0 lo hi

@@ -1,5 +1,4 @@
--- The objects in form. Word 0 of a record is its key, 1 its kind (0 a mutex, 1 an event, 2 a timer), 2 manual, 3 signaled, 4 the
--- owner.
+-- The objects in form. Kind 0 is a mutex, 1 an event, 2 a timer.
 use mathlib.Core.Bool.{Bool, cond, true, false}
 use Prim.Native.Nat.{ℕ, zero, suc, _+_}
 use mathlib.Core.List.{List}

@@ -1,6 +1,4 @@
--- The DPCs in form. Word 0 of a DPC's record is its address, 1 its phase (0 idle, 1 queued, 2 running, 3 returning), 3 the
--- inserted timer that has it, 4 the architecture, 5 to 8 the backing, 11 the work's sequence, 14 its origin (0 no
--- timer), 15 to 20 the timer that put it into the queue, the last of them periodic.
+-- The DPCs in form. Phase 0 is idle, 1 queued, 2 running, 3 returning; origin 0 is a caller, 1 a timer.
 use mathlib.Core.Bool.{Bool, cond, true, false, not}
 use Prim.Native.Nat.{ℕ, zero, suc, _+_}
 use mathlib.Core.List.{List}

@@ -1,5 +1,4 @@
--- The timers in form. Word 0 of a timer's record is its key, 1 its kind (2), 2 manual, 3 signaled, 5 inserted, 7 the period,
--- 8 the DPC, 9 absolute, 11 the initialization, 12 the architecture, 13 to 16 the backing.
+-- The timers in form. Kind 2 is a timer.
 use mathlib.Core.Bool.{Bool, cond, true, false}
 use Prim.Native.Nat.{ℕ, _+_}
 use mathlib.Core.List.{List}

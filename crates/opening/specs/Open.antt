@@ -19,7 +19,7 @@ unfoldable pub badLimits : ℕ → ℕ → ℕ → Bool
 badLimits t o d = cond (ltb t 1) true (cond (ltb at.mostThreads t) true (cond (ltb 4096 o) true (ltb 4096 d)))
 
 abbrev pub wordsNeeded : ℕ → ℕ → ℕ → ℕ
-wordsNeeded t o d = at.headerSize + at.threadSize * t + 32 * (o + d)
+wordsNeeded t o d = at.headerSize + at.threadSize * t + at.recordSize * (o + d)
 
 unfoldable pub sized : ℕ → ℕ → ℕ → Answer
 sized t o d = cond (badLimits t o d) (Refused 27) (Count (wordsNeeded t o d))

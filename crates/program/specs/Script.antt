@@ -1,5 +1,5 @@
--- What the log makes of a script: which call a command means, how its answer is shown, and what a list of commands answers. The log is
--- told the commands alone.
+-- What the log makes of a script: how the answer of a command's call is shown, and what a list of commands answers. The log is told the
+-- commands alone.
 use Prim.Native.Nat.{ℕ, _+_, _*_}
 use mathlib.Core.List.{List, [], _∷_}
 use mathlib.Core.Bool.{Bool, cond, true, false}

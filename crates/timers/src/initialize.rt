@@ -55,7 +55,7 @@ fn any_object(w: &[u64], address: u64, size: u64) -> bool
 fn dpc_overlaps(w: &[u64], at: usize, address: u64, size: u64) -> bool
     ensures { λ r. ⌜ r ≡ dpcOverlaps (now (w .entry)) at address size ⌝ }
 {
-    let key = words::get_in(w, at, layout::KEY);
+    let key = words::get_in(w, at, layout::ADDRESS);
     if key == address {
         return false;
     }

@@ -200,7 +200,7 @@ fn overlaps_dpc(w: &[u64], address: u64, size: u64) -> bool
     images::overlap(
         address,
         size,
-        words::get_in(w, at, layout::KEY),
+        words::get_in(w, at, layout::ADDRESS),
         record::dpc_size_at(w, at),
     )
 }

@@ -100,7 +100,7 @@ fn dpc_stands(w: &[u64], at: usize, address: u64, size: u64) -> bool
     images::overlap(
         address,
         size,
-        words::get_in(w, at, layout::KEY),
+        words::get_in(w, at, layout::ADDRESS),
         record::dpc_size_at(w, at),
     )
 }

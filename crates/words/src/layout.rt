@@ -141,8 +141,10 @@ pub const TIMER_SIZE: usize = 15;
 
 pub const TIMER_MAPPED: usize = 16;
 
-// Words of a DPC's record, behind its address. The phase is 0 idle, 1 queued, 2 running, 3 returning; NAMED_BY is the key of the
+// Words of a DPC's record. The phase is 0 idle, 1 queued, 2 running, 3 returning; NAMED_BY is the key of the
 // inserted timer that has the DPC, or 0.
+pub const ADDRESS: usize = 0;
+
 pub const PHASE: usize = 1;
 
 pub const NEXT_QUEUED: usize = 2;
