@@ -13,7 +13,8 @@ use Rattle.model.specs.Waits as waits
 use Rattle.model.specs.Refusal as row
 use Rattle.model.specs.Step.{refusal, effect, step}
 use Rattle.model.specs.Step as does
-use Rattle.runner.specs.Session.{asked, begin}
+use Rattle.commands.specs.Commands.{asked}
+use Rattle.runner.specs.Session.{begin}
 use Rattle.program.specs.Script.{whenOpen, whenClosed, logAnswers}
 use Rattle.program.specs.Program.{readAll, meanings}
 use Rattle.program.specs.Example.{script, said}

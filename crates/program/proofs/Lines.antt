@@ -45,7 +45,7 @@ use Rattle.script_lex.proofs.NumberLaws.{within}
 use Rattle.model.specs.Fits.{U64, U64s, U64?, I32, BackingFits}
 use Rattle.calls.specs.Called.{optional}
 use Rattle.model.specs.Call as call
-use Rattle.runner.specs.Session.{nothing, calls, asked}
+use Rattle.commands.specs.Commands.{nothing, calls, asked}
 use Rattle.program.specs.Script.{AskedFits}
 
 -- ---- what is read of a word is within its limits, or nothing is read

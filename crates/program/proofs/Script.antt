@@ -60,7 +60,8 @@ use Rattle.theorem.proofs.Start.{agree-begun}
 use Rattle.runner.specs.declared.session.Session.{Session}
 use Rattle.runner.specs.declared.session.Step.{Step}
 use Rattle.runner.specs.Session as program
-use Rattle.runner.specs.Session.{Shown, shown, ReadShown, readShown, Asked, nothing, begins, calls, bares, works, dispatching, creates, moves, asks, Performed, performedAs, unchanged, answersWith, asked, goneOn, onWords, begun, performed, sequenceOf, waited, accepts, opensWith, openedBy}
+use Rattle.commands.specs.Commands.{Shown, shown, ReadShown, readShown, Asked, nothing, begins, calls, bares, works, dispatching, creates, moves, asks, asked, onWords, sequenceOf, waited}
+use Rattle.runner.specs.Session.{Performed, performedAs, unchanged, answersWith, goneOn, begun, performed, accepts, opensWith, openedBy}
 use Rattle.program.specs.Script.{opening, AskedFits, plain, bare, Logged, unread, byCall, byClock, whenOpen, beginning, whenClosed, logged, logAnswers}
 use Rattle.program.specs.Program as line
 use Rattle.program.specs.Program.{Line, meanings, toldIn, does, answersTo}

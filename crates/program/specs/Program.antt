@@ -7,7 +7,8 @@ use Rattle.script.specs.Line.{readLine}
 use Rattle.model.specs.Answer.{Answer}
 use Rattle.call_answers.specs.Told.{told, toldWith}
 use Rattle.runner.specs.declared.session.Session.{Session}
-use Rattle.runner.specs.Session.{Asked, nothing, begins, calls, bares, works, dispatching, creates, moves, asks, asked, Performed, performed}
+use Rattle.commands.specs.Commands.{Asked, nothing, begins, calls, bares, works, dispatching, creates, moves, asks, asked}
+use Rattle.runner.specs.Session.{Performed, performed}
 
 -- a command, with the list that its kinds and keys stand in
 pub record Line : Type 0 where

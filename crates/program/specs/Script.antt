@@ -16,7 +16,7 @@ use Rattle.call_answers.specs.Told.{told}
 use Rattle.runner.specs.declared.session.Session.{Session}
 use Rattle.runner.specs.declared.session.Step as code
 use Rattle.runner.specs.Session as program
-use Rattle.runner.specs.Session.{Asked, nothing, begins, calls, bares, works, dispatching, creates, moves, asks}
+use Rattle.commands.specs.Commands.{Asked, nothing, begins, calls, bares, works, dispatching, creates, moves, asks}
 
 -- "limits 16, 64, 64"
 abbrev pub opening : ℕ → Call

@@ -4,7 +4,8 @@ use mir.Val.{SFits}
 use mir.Facts.{toZ-ofZ}
 use Rattle.runner.proofs.CommandLaws.{same-step, goes-on}
 use Rattle.runner.specs.Session.{newClock}
-use Rattle.runner.specs.Session.{asked, goneOn}
+use Rattle.commands.specs.Commands.{asked}
+use Rattle.runner.specs.Session.{goneOn}
 use borrow.Author.Needs.{needs}
 use Rattle.runner.proofs.session.go_on.Statement.{statement}
 use Rattle.runner.proofs.session.go_on.Tie as tie
@@ -22,7 +23,7 @@ use Rattle.clock.proofs.core.tick64.Reads as tick64-reads
 use Rattle.clock.proofs.core.tsc.Reads as tsc-reads
 use Rattle.runner.proofs.session.moved.Reads as moved-reads
 use Rattle.runner.proofs.session.new_clock.Reads as new-clock-reads
-use Rattle.runner.proofs.session.on_words.Reads as on-words-reads
+use Rattle.commands.proofs.on_words.Reads as on-words-reads
 use Rattle.runner.proofs.session.told.Reads as told-reads
 use Rattle.runner.proofs.session.unchanged.Reads as unchanged-reads
 use Rattle.scheduler.proofs.changes.dispatch.Reads as dispatch-reads

@@ -1,5 +1,6 @@
 use Rattle.runner.proofs.CommandLaws.{no-open}
-use Rattle.runner.specs.Session.{performed, asked, begun}
+use Rattle.commands.specs.Commands.{asked}
+use Rattle.runner.specs.Session.{performed, begun}
 use borrow.Author.Needs.{needs}
 use Rattle.runner.proofs.session.perform.Statement.{statement}
 use Rattle.runner.proofs.session.perform.Tie as tie

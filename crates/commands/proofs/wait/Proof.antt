@@ -1,24 +1,24 @@
 use borrow.Author.Tests.{lt-ltb, le-ltb}
 use lib.ListN.{length-take}
 use native.Mathlib.Omega.{arith}
-use Rattle.runner.specs.Session.{waited, onWords}
+use Rattle.commands.specs.Commands.{waited, onWords}
 use borrow.Author.Needs.{needs}
-use Rattle.runner.proofs.session.wait.Statement.{statement}
-use Rattle.runner.proofs.session.wait.Tie as tie
-use Rattle.runner.proofs.session.wait.Reads as reads
-use Rattle.runner.proofs.session.wait.Lts as lts
+use Rattle.commands.proofs.wait.Statement.{statement}
+use Rattle.commands.proofs.wait.Tie as tie
+use Rattle.commands.proofs.wait.Reads as reads
+use Rattle.commands.proofs.wait.Lts as lts
 use Rattle.scheduler.proofs.changes.wait.Reads as wait-reads
 
--- src/session.rt:168:9
+-- src/lib.rt:168:9
 returns : tie.Need-returns
 unfolding waited onWords
 returns c = simp (lt-ltb _ _ (c .if1 .taken))
 
--- src/session.rt:170:22
+-- src/lib.rt:170:22
 slice-aggregate-wait : tie.Need-slice-aggregate-wait
 slice-aggregate-wait c = simp length-take (omega arith)
 
--- src/session.rt:156:1
+-- src/lib.rt:156:1
 returns-2 : tie.Need-returns-2
 unfolding waited onWords
 returns-2 c = simp (le-ltb _ _ (c .before .before .before .before .before .if1 .left)) (c .before .before .wait .ensures)
