@@ -17,6 +17,11 @@ pub first-step : (m : ℕ) (start : Start) → Accepted m start → (s : State) 
 unfolding refusal effect
 first-step m (byOpen p t o d) e s = step-is (Open m p t o d) s e
 
+-- .. and a call that the table accepts, whatever was before, is an accepted start
+pub first-accepted : (m : ℕ) (start : Start) (s : State) → refusal (firstCall m start) s ≡ 0 → Accepted m start
+unfolding refusal
+first-accepted m (byOpen p t o d) s e = e
+
 pub valid-begun : (m : ℕ) (start : Start) → Accepted m start → Valid (begun start)
 valid-begun m (byOpen p t o d) e = valid-opened m p t o d e
 

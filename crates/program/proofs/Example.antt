@@ -1,11 +1,15 @@
--- Document 01's example script, computed from its bytes to the log's answers.
+-- Document 01's example script, computed from its bytes to the log's answers; other lines to their calls.
 use mathlib.Core.List.{[], _∷_}
 use mathlib.Core.Path.{_≡_, refl}
 use Rattle.script_lex.specs.Words.{blank, grown, pieces, full, wordsOf, first, others, none, same}
 use Rattle.script_lex.specs.Numbers.{allDigits, value, numberFrom, numberOf}
-use Rattle.script_lex.specs.Arguments.{flagOf, oneOf, withOne, bareLine}
+use Rattle.script_lex.specs.Arguments.{flagOf, oneOf, joinTwo, twoOf, joinThree, threeOf, withOne, withTwo, withThree, bareLine}
+use Rattle.script_lex.specs.Location.{architectureOf, imageOf, poolOf, imageLine, poolLine, backingOf, behindBacking, placed, locationOf, behindLocation, withLocation}
+use Rattle.script_timers.specs.Dpc.{routineBehind, initializeDpcLine, dpcWorkLine, dpcLine}
+use Rattle.script_timers.specs.Timers.{timerMemoryLine, timerLine}
+use Rattle.script_timers.specs.Clock.{clockLine}
 use Rattle.script.specs.Wait.{kindOf, itemOf, isRead, told, pairsOf, waitCommand, withIrql, waitFrom, withDeadline, waitUntil, waitLine}
-use Rattle.script.specs.Scheduler.{withFlags, flagged, eventLine, shortLine}
+use Rattle.script.specs.Scheduler.{withFlags, flagged, eventLine, threadLine, eventsLine, mutexLine, shortLine}
 use Rattle.script.specs.Line.{textLength, textLine, readLine}
 use Rattle.model.specs.State.{State}
 use Rattle.model.specs.Threads as threads
@@ -17,8 +21,12 @@ use Rattle.commands.specs.Commands.{asked}
 use Rattle.runner.specs.Session.{begin}
 use Rattle.program.specs.Script.{whenOpen, whenClosed, logAnswers}
 use Rattle.program.specs.Program.{readAll, meanings}
-use Rattle.program.specs.Example.{script, said}
+use Rattle.program.specs.Example.{script, said, silent, silentCalls}
 
 pub example : (st : State) → logAnswers begin st (meanings (readAll (0 ∷ 0 ∷ []) script)) ≡ said
 unfolding script said begin asked whenOpen whenClosed blank grown pieces full wordsOf first others none same allDigits value numberFrom numberOf flagOf oneOf withOne bareLine kindOf itemOf isRead told pairsOf waitCommand withIrql waitFrom withDeadline waitUntil waitLine withFlags flagged eventLine shortLine textLength textLine readLine step refusal effect row.openRefusal row.notPriority row.badLimits does.opened row.eventRefusal row.collides row.isFull row.createRefusal threads.created threads.becomes row.waitRefusal row.badList row.sequenceRefusal does.waited does.blocks does.granted does.timedOut threads.blocked row.dispatchRefusal does.dispatched does.idleAnswer does.counts threads.ran row.signalRefusal does.eventSet waits.wake waits.wakeOne threads.woken row.yieldRefusal threads.yielded
 example st = refl
+
+pub silent-calls : meanings (readAll [] silent) ≡ silentCalls
+unfolding silent silentCalls asked blank grown pieces full wordsOf first others none same allDigits value numberFrom numberOf oneOf joinTwo twoOf joinThree threeOf withOne withTwo withThree bareLine architectureOf imageOf poolOf imageLine poolLine backingOf behindBacking placed locationOf behindLocation withLocation routineBehind initializeDpcLine dpcWorkLine dpcLine timerMemoryLine timerLine clockLine threadLine eventsLine mutexLine shortLine textLength textLine readLine
+silent-calls = refl
