@@ -3,6 +3,7 @@ mod bench;
 mod clock;
 #[path = "../../bindings/rust/src/ffi.rs"]
 mod ffi;
+mod library;
 mod quiet;
 mod random;
 mod scheduler;
@@ -19,6 +20,7 @@ const SEED: u64 = 1;
 const USAGE: &str = "usage: run [--only clock|scheduler] [CALLS [SEED]]
        run --sample STEPS FILE [SEED]
        run --scripts COUNT FOLDER [SEED]
+       run --library COUNT FOLDER [SEED]
        bench";
 
 fn main() -> ExitCode {
@@ -34,6 +36,8 @@ fn main() -> ExitCode {
         ["--sample", steps, file, seed] => sample(steps, file, Some(seed)),
         ["--scripts", count, folder] => scripts(count, folder, None),
         ["--scripts", count, folder, seed] => scripts(count, folder, Some(seed)),
+        ["--library", count, folder] => library(count, folder, None),
+        ["--library", count, folder, seed] => library(count, folder, Some(seed)),
         ["--only", part, ref rest @ ..] => compare(&[part], rest),
         ref rest => compare(&["clock", "scheduler"], rest),
     };
@@ -80,6 +84,11 @@ fn sample(steps: &str, file: &str, seed: Option<&str>) -> Result<(), String> {
 fn scripts(count: &str, folder: &str, seed: Option<&str>) -> Result<(), String> {
     let seed = seed.map_or(Ok(SEED), number)?;
     script::write(number(count)?, Path::new(folder), &Random::new(seed))
+}
+
+fn library(count: &str, folder: &str, seed: Option<&str>) -> Result<(), String> {
+    let seed = seed.map_or(Ok(SEED), number)?;
+    library::write(number(count)?, Path::new(folder), &Random::new(seed))
 }
 
 fn benchmark() {

@@ -1,0 +1,56 @@
+use mathlib.Core.Path.{_≡_}
+use Prim.Native.Nat.{_-_}
+use lib.ListN.{length}
+use borrow.Author.Needs.{needs}
+use Rattle.library_replay.proofs.reads.mutexes.Statement.{statement}
+use Rattle.library_replay.proofs.reads.mutexes.Tie as tie
+use Rattle.library_replay.proofs.reads.mutexes.Reads as reads
+
+abbrev Inv-loop : tie.InvT-loop
+Inv-loop w keys count shown₀ out₀ i₀ shown out i = (length shown ≡ length shown₀) × (length out ≡ length out₀)
+
+abbrev μ-loop : tie.MeasureT-loop
+μ-loop w keys count shown₀ out₀ i₀ shown out i = count - i
+
+loop-holds : tie.Need-loop-holds Inv-loop μ-loop
+loop-holds c = search needs
+
+get-requires : tie.Need-get-requires Inv-loop μ-loop
+get-requires c κs = search needs
+
+mutex-at-requires : tie.Need-mutex-at-requires Inv-loop μ-loop
+mutex-at-requires c κs = search needs
+
+add-i : tie.Need-add-i Inv-loop μ-loop
+add-i c = search needs
+
+loop-less : tie.Need-loop-less Inv-loop μ-loop
+loop-less c = search needs
+
+loop-again : tie.Need-loop-again Inv-loop μ-loop
+loop-again c = search needs
+
+same-length : tie.Need-same-length Inv-loop μ-loop
+same-length c = search needs
+
+same-length-2 : tie.Need-same-length-2 Inv-loop μ-loop
+same-length-2 c = search needs
+
+returns : tie.Need-returns Inv-loop μ-loop
+returns c = search needs
+
+pub mutexes-spec : {M : Type 1} → statement M
+mutexes-spec =
+    tie.close
+    (tie.spec
+    Inv-loop
+    μ-loop
+    loop-holds
+    get-requires
+    mutex-at-requires
+    add-i
+    loop-less
+    loop-again
+    same-length
+    same-length-2
+    returns)

@@ -1,0 +1,198 @@
+// Bytes to lines, and a line to the call that it names.
+use super::named;
+use super::reads;
+use super::show;
+use libc::STDOUT_FILENO;
+use script_lex::lex;
+
+// How many bytes of the present line have come, its number, and how often its call is made.
+pub struct Place {
+    pub used: usize,
+    pub number: u64,
+    pub times: u64,
+    pub keys: usize,
+}
+
+pub fn start() -> Place {
+    Place {
+        used: 0,
+        number: 1,
+        times: 1,
+        keys: 0,
+    }
+}
+
+// The most numbers that a line has: a wait's four, and a list longer than any that is taken.
+const NUMBERS: usize = 160;
+
+// The numbers behind a line's name, and how many they are. A word that is no number counts as 0.
+fn numbers_of(line: &[u8], numbers: &mut [u64]) -> usize {
+    let mut at = lex::behind(line, 0);
+    let mut count: usize = 0;
+    while count < NUMBERS {
+        if lex::is_end(line, at) {
+            return count;
+        }
+        let n = match lex::number_at(line, at, u64::MAX) {
+            lex::Number::Unread => 0,
+            lex::Number::Read(n) => n,
+        };
+        words::put(numbers, count, n);
+        at = lex::behind(line, at);
+        count += 1;
+    }
+    count
+}
+
+// The most keys of mutexes that are read.
+const KEYS: usize = 16;
+
+fn keep_keys(numbers: &[u64], keys: &mut [u64]) {
+    let mut i: usize = 0;
+    while i < KEYS {
+        words::put(keys, i, words::get(numbers, i));
+        i += 1;
+    }
+}
+
+fn fewer(a: usize, b: usize) -> usize {
+    if a < b { a } else { b }
+}
+
+fn call(
+    w: &mut [u64],
+    waiting: &mut [u64],
+    bytes: &mut [u8],
+    out: &mut [u64],
+    line: &[u8],
+    numbers: &[u64],
+    count: usize,
+    times: u64,
+) {
+    let mut left = times;
+    while left > 0 {
+        show::clear(out);
+        let number = named::call(w, waiting, bytes, out, line, numbers, count);
+        show::refuse(out, number);
+        left -= 1;
+    }
+}
+
+// The call of a line is made, and its answer and what it changed are written.
+fn perform(
+    w: &mut [u64],
+    waiting: &mut [u64],
+    bytes: &mut [u8],
+    out: &mut [u64],
+    numbers: &[u64],
+    keys: &[u64],
+    shown: &mut [u64],
+    line: &[u8],
+    count: usize,
+    p: Place,
+) {
+    call(w, waiting, bytes, out, line, numbers, count, p.times);
+    io::print_decimal(STDOUT_FILENO, p.number);
+    io::write_all(STDOUT_FILENO, b" ");
+    show::answer(out);
+    show::beside(out, line, waiting, bytes);
+    show::end_line();
+    reads::state(w, keys, p.keys, shown, out);
+}
+
+// The place behind a line.
+fn next(p: Place, times: u64, keys: usize) -> Place {
+    Place {
+        used: 0,
+        number: std::num::wrapping_add_u64(p.number, 1),
+        times,
+        keys,
+    }
+}
+
+fn finish(
+    w: &mut [u64],
+    waiting: &mut [u64],
+    bytes: &mut [u8],
+    out: &mut [u64],
+    numbers: &mut [u64],
+    keys: &mut [u64],
+    shown: &mut [u64],
+    line: &[u8],
+    p: Place,
+) -> Place {
+    let count = numbers_of(line, numbers);
+    if lex::is_word(line, 0, b"times") {
+        return next(p, words::get(numbers, 0), p.keys);
+    }
+    if lex::is_word(line, 0, b"keys") {
+        keep_keys(numbers, keys);
+        show::forget(shown);
+        return next(p, 1, fewer(count, KEYS));
+    }
+    perform(w, waiting, bytes, out, numbers, keys, shown, line, count, p);
+    next(p, 1, p.keys)
+}
+
+fn byte(
+    w: &mut [u64],
+    waiting: &mut [u64],
+    bytes: &mut [u8],
+    out: &mut [u64],
+    numbers: &mut [u64],
+    keys: &mut [u64],
+    shown: &mut [u64],
+    line: &mut [u8],
+    b: u8,
+    p: Place,
+) -> Place {
+    let n = p.used;
+    if b == b'\n' {
+        if line.len() < n {
+            return p;
+        }
+        return finish(w, waiting, bytes, out, numbers, keys, shown, &line[..n], p);
+    }
+    if n < line.len() {
+        line[n] = b;
+        return Place {
+            used: n + 1,
+            number: p.number,
+            times: p.times,
+            keys: p.keys,
+        };
+    }
+    p
+}
+
+pub fn take(
+    w: &mut [u64],
+    waiting: &mut [u64],
+    bytes: &mut [u8],
+    out: &mut [u64],
+    numbers: &mut [u64],
+    keys: &mut [u64],
+    shown: &mut [u64],
+    line: &mut [u8],
+    chunk: &[u8],
+    p: Place,
+) -> Place {
+    let mut at = p;
+    let mut i: usize = 0;
+    while i < chunk.len() {
+        at = byte(
+            w,
+            waiting,
+            bytes,
+            out,
+            numbers,
+            keys,
+            shown,
+            line,
+            chunk[i],
+            at,
+        );
+        i += 1;
+    }
+    at
+}
