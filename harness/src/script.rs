@@ -1,4 +1,5 @@
 //! Random scripts in document 01's language, with the output that the originals give.
+mod chosen;
 mod line;
 mod unreadable;
 
@@ -15,17 +16,36 @@ use std::path::Path;
 const LIMITS: Limits = Limits::new(16, 64, 64);
 const UNREADABLE: &str = "refused 28";
 
-/// Writes as many scripts to the folder, each with its output beside it.
+/// The fewest bytes and lines of a long script.
+const LONG: usize = 40_960;
+const LONG_LINES: usize = 1_000;
+
+/// Writes as many random scripts to the folder, the chosen ones and a long one, each with its output
+/// beside it.
 pub fn write(count: u64, folder: &Path, random: &Random) -> Result<(), String> {
-    let told = |path: &Path, error| format!("{}: {error}", path.display());
-    fs::create_dir_all(folder).map_err(|error| told(folder, error))?;
+    fs::create_dir_all(folder).map_err(|error| format!("{}: {error}", folder.display()))?;
     for index in 1..=count {
-        let script = Script::random(random)?;
-        for (ending, lines) in [("script", script.lines), ("out", script.output)] {
-            let path = folder.join(format!("random-{index:04}.{ending}"));
-            let text = lines.join("\n") + "\n";
-            fs::write(&path, text).map_err(|error| told(&path, error))?;
-        }
+        store(
+            folder,
+            &format!("random-{index:04}"),
+            Script::random(random)?,
+        )?;
+    }
+    for (index, list) in (1..).zip(chosen::lists()) {
+        store(
+            folder,
+            &format!("chosen-{index:04}"),
+            Script::chosen(random, &list)?,
+        )?;
+    }
+    store(folder, "long", Script::long(random)?)
+}
+
+fn store(folder: &Path, name: &str, script: Script) -> Result<(), String> {
+    for (ending, lines) in [("script", script.lines), ("out", script.output)] {
+        let path = folder.join(format!("{name}.{ending}"));
+        let text = lines.join("\n") + "\n";
+        fs::write(&path, text).map_err(|error| format!("{}: {error}", path.display()))?;
     }
     Ok(())
 }
@@ -41,16 +61,40 @@ struct Script<'a> {
 }
 
 impl<'a> Script<'a> {
-    fn random(random: &'a Random) -> Result<Self, String> {
-        let keys = random.pick(&[3, 8, 80]);
-        let mut script = Self {
+    fn new(random: &'a Random, keys: u64) -> Self {
+        Self {
             random,
             draw: Draw::new(random, keys),
             scheduler: None,
             clock: None,
             lines: Vec::new(),
             output: Vec::new(),
-        };
+        }
+    }
+
+    /// Calls that all have a line.
+    fn chosen(random: &'a Random, list: &[Call]) -> Result<Self, String> {
+        let mut script = Self::new(random, 1);
+        script.open(8);
+        for call in list {
+            script.scheduler_call(call)?;
+        }
+        Ok(script)
+    }
+
+    fn long(random: &'a Random) -> Result<Self, String> {
+        let mut script = Self::random(random)?;
+        while script.lines.len() < LONG_LINES
+            || script.lines.iter().map(String::len).sum::<usize>() < LONG
+        {
+            script.random_line()?;
+        }
+        Ok(script)
+    }
+
+    fn random(random: &'a Random) -> Result<Self, String> {
+        let keys = random.pick(&[3, 8, 80]);
+        let mut script = Self::new(random, keys);
         if random.once_in(8) {
             for _ in 0..random.below(4) {
                 script.random_line()?;

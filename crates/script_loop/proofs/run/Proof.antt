@@ -1,10 +1,10 @@
 use borrow.Author.Needs.{needs}
 use lib.ListN.{length, length-take}
 use mathlib.Core.Path.{_≡_}
-use Rattle.bench.proofs.run.Statement.{statement}
-use Rattle.bench.proofs.run.Tie as tie
-use Rattle.bench.proofs.run.Reads as reads
-use Rattle.bench.proofs.run.Lts as lts
+use Rattle.script_loop.proofs.run.Statement.{statement}
+use Rattle.script_loop.proofs.run.Tie as tie
+use Rattle.script_loop.proofs.run.Reads as reads
+use Rattle.script_loop.proofs.run.Lts as lts
 use Rattle.io.proofs.count.Reads as count-reads
 use Rattle.io.proofs.write_all.Reads as write-all-reads
 use Rattle.libc.proofs.read.Reads as read-reads
