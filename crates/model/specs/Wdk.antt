@@ -1,4 +1,4 @@
--- What Microsoft's pages say that the kernel's routines report, of a state before the call and one after it.
+-- What Microsoft's pages say that the kernel's routines report, in our own words, of a state before the call and one after it. Each definition names the page, by its routine, that it states.
 use Prim.Native.Nat.{ℕ, _<_}
 use mathlib.Core.List.{List}
 use mathlib.Core.Bool.{Bool, true, false, cond, not}
@@ -12,54 +12,53 @@ use Rattle.model.specs.Threads.{isThread, hasExited, statusOf}
 use Rattle.model.specs.Waits.{objectAt, eventAt, timerAt, namedIn}
 use Rattle.model.specs.Answer.{Answer, Flag, Satisfied, Timeout, Blocked}
 
--- KeSetEvent: whether the event was signaled before
+-- the page of KeSetEvent: the value that it returns is not zero where the event was signaled before
 abbrev pub wasSignaled : State → ℕ → Bool
 wasSignaled s key = given (eventAt (s .dispatcher .objects) key) false (λ (e : Event). e .signaled)
 
--- KeSetTimerEx, KeSetTimer: TRUE if the timer was in the timer queue already.
--- KeCancelTimer: TRUE if the timer was in the timer queue.
+-- the pages of KeSetTimerEx and KeSetTimer: TRUE if the timer was in the timer queue already; the page of KeCancelTimer: TRUE if it was in the timer queue
 abbrev pub inTimerQueue : State → ℕ → Bool
 inTimerQueue s address = given (timerAt (s .dispatcher .objects) address) false (λ (t : Timer). t .inserted)
 
 -- ---- KeInsertQueueDpc, KeRemoveQueueDpc
 
--- the DPC is in the queue
+-- the DPC is in the queue, as the pages of KeInsertQueueDpc and KeRemoveQueueDpc speak of it
 abbrev pub inDpcQueue : State → ℕ → Bool
 inDpcQueue s address = member address (s .dpcs .queue)
 
--- KeInsertQueueDpc: TRUE if the DPC was not in a queue and now is; FALSE if it was queued already, and then nothing of it changes
+-- the page of KeInsertQueueDpc: TRUE if the DPC was not in a queue and now is; FALSE if it was queued already, and then nothing of it changes
 pub record InsertReports (before after : State) (address : ℕ) (answer : Answer) : Type 0 where
   pub says : answer ≡ Flag (not (inDpcQueue before address))
   pub queued : inDpcQueue after address ≡ true
   pub unchanged : inDpcQueue before address ≡ true → (after .dpcs .table ≡ before .dpcs .table) × (after .dpcs .queue ≡ before .dpcs .queue)
 
--- KeRemoveQueueDpc: TRUE if it was in the queue; it is not queued afterwards
+-- the page of KeRemoveQueueDpc: TRUE if it was in the queue; it is not queued afterwards
 pub record RemoveReports (before after : State) (address : ℕ) (answer : Answer) : Type 0 where
   pub says : answer ≡ Flag (inDpcQueue before address)
   pub out : inDpcQueue after address ≡ false
 
 -- ---- KeWaitForMultipleObjects
 
--- the object is in the signaled state: a mutex that nobody owns, an event or a timer that is signaled, a thread that has ended
+-- the page of KeWaitForMultipleObjects speaks of objects in the signaled state: a mutex that nobody owns, an event or a timer that is signaled, a thread that has ended
 abbrev pub isSignaled : Object → Bool
 isSignaled (mutex m) = eqb (m .owner) 0
 isSignaled (event e) = e .signaled
 isSignaled (timer t) = t .signaled
 
--- the listed object is in the signaled state
+-- the same of a listed object
 abbrev pub signaledNow : State → Named → Bool
 signaledNow s n =
     cond (eqb (n .kind) 3)
     (cond (isThread (s .dispatcher) (n .key)) (hasExited (statusOf (s .dispatcher) (n .key))) false)
     (given (namedIn (s .dispatcher .objects) n) false isSignaled)
 
--- the object at position `i` is signaled and none before it is
+-- the lowest index of that page: the object at position `i` is signaled and none before it is
 pub record LowestSignaled (s : State) (ns : List Named) (i : ℕ) (n : Named) : Type 0 where
   pub at : nth ns i ≡ some n
   pub signaled : signaledNow s n ≡ true
   pub lowest : (j : ℕ) (m : Named) → j < i → nth ns j ≡ some m → signaledNow s m ≡ false
 
--- what waiting does to an object that is signaled: the thread owns a mutex; an event or a timer for synchronization is signaled no
+-- what the pages of KeWaitForMultipleObjects, KeInitializeEvent and KeInitializeTimerEx say that a wait does to an object that is signaled: the thread owns a mutex; an event or a timer for synchronization is signaled no
 -- more, and one for notification stays as it is
 abbrev pub afterWait : ℕ → Object → Object
 afterWait id (mutex m) = mutex (record { key = m .key; owner = id })
@@ -105,12 +104,12 @@ pub record WaitAll (before after : State) (id : ℕ) (ns : List Named) : Type 0 
 abbrev pub isSatisfied : State → List Named → Bool → Bool
 isSatisfied s ns all = cond all (every (signaledNow s) ns) (any (signaledNow s) ns)
 
--- the timeout is zero or reached: its end is now or past; a wait without one has no end
+-- the page's Timeout is zero or reached: its end is now or past; a wait without one has no end
 abbrev pub timeoutOver : State → Option ℕ → Bool
 timeoutOver s none = false
 timeoutOver s (some end) = leb end (s .now)
 
--- what a wait of the thread reports, in every case
+-- the page of KeWaitForMultipleObjects: what a wait of the thread reports, in every case
 pub record WaitReports (before after : State) (id : ℕ) (ns : List Named) (all : Bool) (timeout : Option ℕ) (answer : Answer) : Type 0 where
   -- satisfied: WaitAny, and WaitAll
   pub one : all ≡ false → isSatisfied before ns all ≡ true → (i : ℕ) × (answer ≡ Satisfied i) × WaitAny before after id ns i
