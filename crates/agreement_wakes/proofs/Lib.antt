@@ -13,6 +13,3 @@ pub mod Awake
 pub mod Events
 pub mod Mutexes
 pub mod Terminate
-pub mod Visits
-pub mod Granted
-pub mod SetEvent

@@ -3,3 +3,4 @@ pub mod FormLaws
 pub mod AdvanceLaws
 pub mod ClockLaws
 pub mod Lent
+pub mod PassingLaws

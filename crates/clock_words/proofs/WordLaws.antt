@@ -27,7 +27,7 @@ use Rattle.clock.proofs.ClockLaws.{refused-unchanged, new-in-form, form-kept}
 use Rattle.clock_words.specs.ClockWords.{fitted, offsetAt, offsetWord, clockAt, putClock, returned, opened, ended, changed, placed, answered, readInto}
 use Rattle.clock_words.proofs.OffsetLaws.{word-of-offset, offset-of-word}
 
-fitted-word : (most word other : ℕ) → (fitted most word other ≡ other → ⊥) → fitted most word other ≡ word
+pub fitted-word : (most word other : ℕ) → (fitted most word other ≡ other → ⊥) → fitted most word other ≡ word
 unfolding fitted
 fitted-word most word other = go (leb word most)
   where
@@ -45,7 +45,7 @@ same-words w e =
     let countdown : fitted 65535 (getD w 6 0) 0 ≡ getD w 6 0 = fitted-word _ _ _ (λ q. omega arith) in
     simp (ticks, offset, mhz, countdown, set-getD)
 
-not-ok : (a : Done) → (refusalNumber a ≡ 0 → ⊥) → isOk a ≡ false
+pub not-ok : (a : Done) → (refusalNumber a ≡ 0 → ⊥) → isOk a ≡ false
 not-ok done.Ok n = absurd (n refl)
 not-ok (done.Err why) n = refl
 
@@ -118,7 +118,7 @@ read-back (_ ∷ _ ∷ _ ∷ _ ∷ _ ∷ []) c h e = absurd (omega arith)
 read-back (_ ∷ _ ∷ _ ∷ _ ∷ _ ∷ _ ∷ []) c h e = absurd (omega arith)
 
 -- a missing countdown is 0
-long-enough : (w : List ℕ) → inForm (clockAt w) ≡ true → 7 ≤ length w
+pub long-enough : (w : List ℕ) → inForm (clockAt w) ≡ true → 7 ≤ length w
 unfolding clockAt fitted
 long-enough w e = go (decLt 6 (length w))
   where

@@ -1,13 +1,12 @@
 -- A dispatch with none current and some thread ready runs the right one, and the words say that it is current.
 use Prim.Native.Nat.{ℕ, _≤_}
 use mathlib.Core.List.{List, [], _∷_}
-use mathlib.Core.Bool.{Bool, false, cond}
+use mathlib.Core.Bool.{false}
 use mathlib.Core.Path.{_≡_, refl, sym, ap, _∙_, subst}
 use native.Mathlib.Omega.{arith}
-use borrow.Author.Tests.{eq-eqb, le-ltb, ltb-false}
+use borrow.Author.Tests.{ltb-false}
 use lib.Dec.{ltb}
-use lib.ListN.{length, getD}
-use Rattle.words.specs.Layout as at
+use lib.ListN.{length}
 use Rattle.calls.specs.Run.{answered, left}
 use Rattle.model.specs.Lists.{Mem, isEmpty}
 use Rattle.model.specs.State.{State, Thread, ready, running}
@@ -15,41 +14,29 @@ use Rattle.model.specs.Threads as threads
 use Rattle.model.specs.Threads.{becomes, ran, threadOf, withStatus, isReady}
 use Rattle.model.specs.Choice.{Right}
 use Rattle.model.specs.Refusal.{dispatchRefusal}
-use Rattle.model.specs.Answer.{Outcome, gives, Run, None, ThreadIs}
+use Rattle.model.specs.Answer.{Outcome, Run, None, ThreadIs}
 use Rattle.model.specs.Call.{Call, Dispatch}
 use Rattle.model.specs.Call as call
-use Rattle.model.specs.Step.{step, refusal, effect, dispatched, withDispatcher, idleAnswer}
+use Rattle.model.specs.Step.{step, refusal}
 use Rattle.model.specs.Start.{Start, Accepted}
 use Rattle.model.proofs.ListLaws.{member-mem}
 use Rattle.model.proofs.ThreadLaws.{length-change, change-own, stands-somewhere}
 use Rattle.model.proofs.SoundLaws.{is-thread}
 use Rattle.model.proofs.RowLaws.{passes}
 use Rattle.model.proofs.ChoiceLaws.{right-next}
-use Rattle.model.proofs.WdkLaws.{step-is}
+use Rattle.model.proofs.Told.{thread-told, told-thread, current-none-told, told-current}
 use Rattle.theorem.specs.History.{Proper}
 use Rattle.theorem.specs.Theorem.{logged, end}
+use Rattle.theorem.proofs.Runs.{runs-next}
 use Rattle.corollaries.specs.Reads.{ThreadRead}
 use Rattle.corollaries.specs.Refusals.{isRefused}
 use Rattle.corollaries.specs.Dispatches.{MadeCurrent}
 use Rattle.corollaries.proofs.Next.{next, next-but-one, valid}
-use Rattle.corollaries.proofs.Told.{thread-told, told-thread, current-none-told, told-current}
 use Rattle.corollaries.proofs.Refusals.{passed-by}
 
 some-in : (l : List ℕ) (j : ℕ) → Mem j l → isEmpty l ≡ false
 some-in [] j m = absurd m
 some-in (x ∷ l) j m = refl
-
--- the call on the log
-runs : (s : State) (n : ℕ) → s .limits .threads ≤ n → s .dispatcher .current ≡ 0 → isEmpty (s .dispatcher .placed) ≡ false
-    → step (Dispatch n) s ≡ gives (Run (threads.next (s .dispatcher))) (withDispatcher s (ran (s .dispatcher) (threads.next (s .dispatcher))))
-unfolding refusal dispatchRefusal effect dispatched
-runs s n h z e =
-    step-is (Dispatch n) s (ap (λ (b : Bool). cond b 27 0) (le-ltb n (s .limits .threads) h))
-    ∙ ap (λ (b : Bool). cond b (cond (isEmpty (s .dispatcher .placed)) (gives (idleAnswer (s .dispatcher)) s) runs-next) (gives (Run (s .dispatcher .current)) s)) (eq-eqb (s .dispatcher .current) 0 z)
-    ∙ ap (λ (b : Bool). cond b (gives (idleAnswer (s .dispatcher)) s) runs-next) e
-  where
-    runs-next : Outcome
-    runs-next = gives (Run (threads.next (s .dispatcher))) (withDispatcher s (ran (s .dispatcher) (threads.next (s .dispatcher))))
 
 module _ (w : List ℕ) (start : Start) (calls : List Call) (accepted : Accepted (length w) start) (proper : Proper (length w) calls) where
   abbrev words : List ℕ
@@ -57,19 +44,6 @@ module _ (w : List ℕ) (start : Start) (calls : List Call) (accepted : Accepted
 
   abbrev log : State
   log = logged w start calls
-
-  -- the highest priority, and of those the earliest placed; after the call it is current
-  pub runs-right : (n : ℕ) → log .limits .threads ≤ n → log .dispatcher .current ≡ 0 → isEmpty (log .dispatcher .placed) ≡ false
-      → (i : ℕ) × (answered words (Dispatch n) ≡ Run i) × Right (log .dispatcher) i × (getD (left words (Dispatch n)) at.current 0 ≡ i)
-  unfolding ran becomes
-  runs-right n h z e =
-      let m = next w start calls accepted proper (Dispatch n) tt tt in
-      let q = runs log n h z e in (
-        threads.next (log .dispatcher),
-        m .answers ∙ ap (λ (x : Outcome). x .answer) q,
-        right-next log (valid w start calls accepted proper) e,
-        m .agree .numbers at.current _ refl ∙ ap (λ (x : Outcome). x .state .dispatcher .current) q,
-      )
 
   reads : (r : call.Read) → answered words (call.Reads r) ≡ step (call.Reads r) log .answer
   reads r = next w start calls accepted proper (call.Reads r) tt tt .answers
@@ -79,7 +53,7 @@ module _ (w : List ℕ) (start : Start) (calls : List Call) (accepted : Accepted
       member-mem j (log .dispatcher .placed) (valid w start calls accepted proper .sound .standing .placed-ready j
       ∙ ap isReady (ap (λ (z : Thread). z .status) (thread-told log j y (sym (reads (call.Thread j)) ∙ read) .1) ∙ q))
 
-  -- the same by what the reads answer: none is current, some thread is ready, and the dispatch is not refused
+  -- by what the reads answer: none is current, some thread is ready, and the dispatch is not refused
   pub dispatch-runs : (n : ℕ) → isRefused (answered words (Dispatch n)) ≡ false → answered words (call.Reads call.Current) ≡ None
       → (j : ℕ) (y : Thread) → ThreadRead words j y → y .status ≡ ready
       → (i : ℕ) × (answered words (Dispatch n) ≡ Run i) × MadeCurrent words (left words (Dispatch n)) i × Right (log .dispatcher) i
@@ -90,7 +64,7 @@ module _ (w : List ℕ) (start : Start) (calls : List Call) (accepted : Accepted
       let h = ltb-false n (log .limits .threads) (passes (ltb n (log .limits .threads)) 26 0 (passed-by w start calls accepted proper (Dispatch n) tt tt e) .0) in
       let some = some-in (d₀ .placed) j (ready-placed j y read q) in
       let r = right-next log (valid w start calls accepted proper) some in
-      let z = runs log n h (current-none-told log (sym (reads call.Current) ∙ none)) some in
+      let z = runs-next log n h (current-none-told log (sym (reads call.Current) ∙ none)) some in
       let s₁ = step (Dispatch n) log .state in
       let b = stands-somewhere (d₀ .threads) i isReady refl (ap isReady (r .is-ready)) in
       let x = withStatus (threadOf d₀ i) running in (

@@ -19,11 +19,11 @@ use Rattle.model.specs.Fits.{Fits}
 use Rattle.model.proofs.TableLaws.{found}
 use Rattle.model.proofs.ObjectLaws.{timer-found}
 use Rattle.model.proofs.NeverLaws.{advance-never-21, advance-never-2, one-timer-a-dpc}
+use Rattle.model.proofs.Told.{timer-told}
 use Rattle.theorem.specs.History.{Proper}
 use Rattle.theorem.specs.Theorem.{logged, end}
 use Rattle.corollaries.specs.Reads.{TimerRead}
 use Rattle.corollaries.proofs.Next.{next, valid}
-use Rattle.corollaries.proofs.Told.{timer-told}
 use Rattle.corollaries.proofs.Refusals.{refused-by}
 
 module _ (w : List ℕ) (start : Start) (calls : List Call) (accepted : Accepted (length w) start) (proper : Proper (length w) calls) where

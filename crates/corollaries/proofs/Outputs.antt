@@ -33,6 +33,7 @@ use Rattle.model.specs.Dpcs.{dpcAt}
 use Rattle.model.specs.Call.{Call, Dispatch, Reads, TimerImage, DpcImage}
 use Rattle.model.specs.Call as call
 use Rattle.model.specs.Start.{Start, Accepted}
+use Rattle.model.proofs.Told.{timer-told, dpc-told}
 use Rattle.agreement.specs.Agree.{Agree}
 use Rattle.agreement.proofs.Records.{timer-read}
 use Rattle.agreement.proofs.Lookups.{object-row}
@@ -45,7 +46,6 @@ use Rattle.theorem.specs.Theorem.{logged, end}
 use Rattle.theorem.proofs.Theorem.{theorem}
 use Rattle.corollaries.specs.Reads.{TimerRead, DpcRead}
 use Rattle.corollaries.proofs.Next.{agree, valid, next}
-use Rattle.corollaries.proofs.Told.{timer-told, dpc-told}
 
 -- the words after a dispatch depend on the output's length alone
 words-cond : (b : Bool) (x y : Dispatched) → cond b x y .words ≡ cond b (x .words) (y .words)

@@ -6,26 +6,10 @@ use mathlib.Core.Option.{none, some}
 use mathlib.Core.Logic.{inl, inr}
 use mathlib.Core.Path.{_≡_, refl, sym, ap, _∙_, subst}
 use native.Mathlib.Omega.{arith}
-use lib.ListN.{length}
-use Rattle.model.specs.Lists.{Mem, Before, Distinct, countOf, firstOf, nth}
+use Rattle.model.specs.Lists.{Mem, Distinct, countOf, firstOf, nth}
 use Rattle.model.specs.Valid.{RisingBy}
 use Rattle.model.proofs.TableLaws.{some-same, none-some}
 use Rattle.agreement_tables.proofs.Lists.{nth-mem}
-
-pub mem-nth : (l : List ℕ) (x : ℕ) → Mem x l → (n : ℕ) × (nth l n ≡ some x)
-mem-nth [] x m = absurd m
-mem-nth (y ∷ l) x (inl e) = (0, ap (λ (k : ℕ). some k) (sym e))
-mem-nth (y ∷ l) x (inr m) = let r = mem-nth l x m in (suc (r .0), r .1)
-
--- every position below the length has one, and the length has none
-pub nth-below : (l : List ℕ) (k : ℕ) → k < length l → (x : ℕ) × (nth l k ≡ some x)
-nth-below [] k h = absurd (omega arith)
-nth-below (y ∷ l) zero h = (y, refl)
-nth-below (y ∷ l) (suc k) h = nth-below l k (omega arith)
-
-pub nth-end : (l : List ℕ) → nth l (length l) ≡ none
-nth-end [] = refl
-nth-end (y ∷ l) = nth-end l
 
 pub distinct-nth : (l : List ℕ) → Distinct l → (x m n : ℕ) → nth l m ≡ some x → nth l n ≡ some x → m ≡ n
 distinct-nth [] h x m n p q = absurd (none-some x p)
@@ -39,11 +23,6 @@ rising-nth f [] h x y m n p q k = absurd (none-some x p)
 rising-nth f (z ∷ l) h x y m zero p q k = absurd (omega arith)
 rising-nth f (z ∷ l) h x y zero (suc n) p q k = subst (λ (i : ℕ). f i < f y) (some-same z x p) (h .0 y (nth-mem l n y q))
 rising-nth f (z ∷ l) h x y (suc m) (suc n) p q k = rising-nth f l (h .1) x y m n p q (omega arith)
-
-pub rising-before : (f : ℕ → ℕ) (l : List ℕ) → RisingBy f l → (x y : ℕ) → Before x y l → f x < f y
-rising-before f [] h x y b = absurd b
-rising-before f (z ∷ l) h x y (inl b) = subst (λ (i : ℕ). f i < f y) (sym (b .0)) (h .0 y (b .1))
-rising-before f (z ∷ l) h x y (inr b) = rising-before f l (h .1) x y b
 
 module _ {A : Type 0} (f : A → Bool) where
   -- one that passes the test is counted

@@ -5,6 +5,7 @@ use mathlib.Core.Bool.{true, false}
 use mathlib.Core.Option.{Option, none, some}
 use mathlib.Core.Logic.{inl, inr}
 use mathlib.Core.Path.{_≡_, refl, sym, ap, _∙_, subst}
+use native.Mathlib.Omega.{arith}
 use lib.ListN.{length, getD}
 use Rattle.words.specs.Layout as at
 use Rattle.images.specs.declared.Dpc.{Dpc}
@@ -12,27 +13,28 @@ use Rattle.images.specs.declared.DpcWork.{DpcWork}
 use Rattle.images.specs.declared.DpcPhase.{DpcPhase}
 use Rattle.images.specs.declared.DpcPhase.the-variants.{Idle, Queued, Running, Returning}
 use Rattle.calls.specs.Run.{answered}
-use Rattle.model.specs.Lists.{Mem}
+use Rattle.model.specs.Lists.{Mem, given}
 use Rattle.model.specs.State.{State}
 use Rattle.model.specs.Dpcs.{addressOf, dpcAt, phaseAt, isActive, isReturning, isIdle, workOf, activeDpc}
 use Rattle.model.specs.Valid.{Queueing, sequenceOf, workAt, activeCount, returningCount}
+use Rattle.model.specs.Answer.{Answer, None, Number, DpcIs}
 use Rattle.model.specs.Call.{Call}
 use Rattle.model.specs.Call as call
 use Rattle.model.specs.Step.{step}
 use Rattle.model.specs.Start.{Start, Accepted}
-use Rattle.model.proofs.ListLaws.{mem-member}
+use Rattle.model.proofs.ListLaws.{mem-nth, mem-member}
 use Rattle.model.proofs.TableLaws.{found}
 use Rattle.model.proofs.DpcLaws.{queued-work, phase-found, phase-known}
 use Rattle.model.proofs.NeverLaws.{queued-in-queue}
-use Rattle.agreement_tables.proofs.Lists.{nth-mem}
+use Rattle.model.proofs.Told.{dpc-told, told-dpc, queue-told, told-queue, queue-answers, active-answers, counters-answers}
+use Rattle.agreement_tables.proofs.Lists.{nth-mem, nth-some, nth-none}
 use Rattle.theorem.specs.History.{Proper}
 use Rattle.theorem.specs.Theorem.{logged, end}
 use Rattle.theorem.proofs.Theorem.{theorem}
 use Rattle.corollaries.specs.Reads.{DpcRead, QueueRead}
 use Rattle.corollaries.specs.Queue.{ActiveWork, Counted}
 use Rattle.corollaries.proofs.Next.{next, valid}
-use Rattle.corollaries.proofs.Told.{dpc-told, told-dpc, queue-told, told-queue, told-queue-end, told-active, told-counters}
-use Rattle.corollaries.proofs.Positions.{mem-nth, nth-below, nth-end, distinct-nth, rising-nth, counted-once, none-counted, first-counted}
+use Rattle.corollaries.proofs.Positions.{distinct-nth, rising-nth, counted-once, none-counted, first-counted}
 
 -- what is not active is not returning
 idle-not-returning : (q : DpcPhase) → isActive q ≡ false → isReturning q ≡ false
@@ -114,11 +116,11 @@ module _ (w : List ℕ) (start : Start) (calls : List Call) (accepted : Accepted
   pub counted : Counted words
   counted = record {
     counters = log .dpcs .counters;
-    read = reads call.DpcCounters ∙ told-counters log;
+    read = reads call.DpcCounters ∙ counters-answers log;
     queued = length (log .dpcs .queue);
     queue = record {
-      below = λ k h. let r = nth-below (log .dpcs .queue) k h in (r .0, reads (call.QueuedDpcs k) ∙ told-queue log k (r .0) (r .1));
-      end = reads (call.QueuedDpcs (length (log .dpcs .queue))) ∙ told-queue-end log (length (log .dpcs .queue)) (nth-end (log .dpcs .queue));
+      below = λ k h. let r = nth-some (log .dpcs .queue) k h in (r .0, reads (call.QueuedDpcs k) ∙ told-queue log k (r .0) (r .1));
+      end = reads (call.QueuedDpcs (length (log .dpcs .queue))) ∙ queue-answers log (length (log .dpcs .queue)) ∙ ap (λ (o : Option ℕ). given o None Number) (nth-none (log .dpcs .queue) (length (log .dpcs .queue)) (omega arith));
     };
     active = activeCount (log .dpcs .table);
     returning = returningCount (log .dpcs .table);
@@ -128,10 +130,13 @@ module _ (w : List ℕ) (start : Start) (calls : List Call) (accepted : Accepted
     returns = queueing .returns;
   }
     where
+      told : Option Dpc → Answer
+      told o = given o None DpcIs
+
       go : (m : Option Dpc) → activeDpc (log .dpcs .table) ≡ m → ActiveWork words (activeCount (log .dpcs .table)) (returningCount (log .dpcs .table))
       go none e =
           let r = none-counted (λ (z : Dpc). isActive (z .phase)) (λ (z : Dpc). isReturning (z .phase)) (λ z. idle-not-returning (z .phase)) (log .dpcs .table) e in
-          inl (reads call.ActiveDpc ∙ told-active log none e, r .0, r .1)
+          inl (reads call.ActiveDpc ∙ active-answers log ∙ ap told e, r .0, r .1)
       go (some x) e =
           let r = first-counted (λ (z : Dpc). isActive (z .phase)) (λ (z : Dpc). isReturning (z .phase)) (λ z. idle-not-returning (z .phase)) (log .dpcs .table) x e (queueing .one-active) in
-          inr (x, reads call.ActiveDpc ∙ told-active log (some x) e, r .0, r .1)
+          inr (x, reads call.ActiveDpc ∙ active-answers log ∙ ap told e, r .0, r .1)

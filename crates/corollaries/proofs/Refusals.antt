@@ -59,6 +59,10 @@ module _ (w : List ℕ) (start : Start) (calls : List Call) (accepted : Accepted
       go (yes z) = z
       go (no z) = absurd (not-both (sym (ap isRefused (answers-number c fit lent (refusal c log) z refl)) ∙ e))
 
+  -- 0 is no refusal's number
+  pub never-0 : (c : Call) → Fits c → Lent (length w) c → answered words c ≡ Refused 0 → ⊥
+  never-0 c fit lent e = not-both (sym (ap isRefused e) ∙ not-refused c fit lent (refused-by c fit lent 0 e) .1)
+
   -- 27 is answered for an output or lent words that are too short, and for bad limits of an `open`; never for the words' form
   pub never-27 : (c : Call) → Fits c → Lent (length w) c → answered words c ≡ Refused 27 → Short (getD words at.threadLimit 0) c
   never-27 c fit lent e =

@@ -24,13 +24,13 @@ use Rattle.model.specs.Start.{Start, Accepted}
 use Rattle.model.proofs.ListLaws.{not-both}
 use Rattle.model.proofs.ObjectLaws.{mutex-found, event-found, timer-found}
 use Rattle.model.proofs.History as history
+use Rattle.model.proofs.Told.{thread-told, told-thread, event-told, told-event, timer-told, told-timer, unowned-told, told-owner, told-number}
 use Rattle.theorem.specs.History.{Proper}
 use Rattle.theorem.specs.Theorem.{logged, end}
 use Rattle.corollaries.specs.Reads.{ThreadRead, EventRead, TimerRead}
 use Rattle.corollaries.specs.Waiters as shows
 use Rattle.corollaries.specs.Waiters.{Unavailable}
 use Rattle.corollaries.proofs.Next.{agree, next, valid}
-use Rattle.corollaries.proofs.Told.{thread-told, told-thread, event-told, told-event, timer-told, told-timer, owner-none-told, told-owner}
 
 -- an object of the kind, which is not free
 kind-is : (k : ℕ) (x : Object) → present (ofKind k (some x)) ≡ true → given (ofKind k (some x)) false isFree ≡ false → (k ≡ kindOf x) × (isFree x ≡ false)
@@ -75,7 +75,7 @@ module _ (w : List ℕ) (start : Start) (calls : List Call) (accepted : Accepted
       as-object none f q z = absurd (not-both (sym q))
       as-object (some (mutex m)) f q z =
           let k = kind-is (n .kind) (mutex m) q z in
-          shows.owned (m .owner) (k .0) (reads (call.MutexOwner (n .key)) ∙ told-owner log (n .key) m (ap asMutex f) (eqb-false (m .owner) 0 (k .1)))
+          shows.owned (m .owner) (k .0) (reads (call.MutexOwner (n .key)) ∙ told-owner log (n .key) m (ap asMutex f) ∙ told-number (m .owner) (eqb-false (m .owner) 0 (k .1)))
       as-object (some (event e)) f q z =
           let k = kind-is (n .kind) (event e) q z in
           shows.event e (k .0) (reads (call.EventState (n .key)) ∙ told-event log (n .key) e (ap asEvent f)) (k .1)
@@ -107,7 +107,7 @@ module _ (w : List ℕ) (start : Start) (calls : List Call) (accepted : Accepted
     -- no mutex that it waits for is free
     pub no-mutex-free : y .all ≡ false → (key : ℕ) → Mem (record { kind = 0; key = key }) (y .objects) → answered words (call.Reads (call.MutexOwner key)) ≡ None → ⊥
     no-mutex-free all key m q =
-        let r = owner-none-told log key (sym (reads (call.MutexOwner key)) ∙ q) in
+        let r = unowned-told log key (sym (reads (call.MutexOwner key)) ∙ q) in
         not-both (sym (ap (λ (a : Option Object). given (ofKind 0 a) false isFree) (mutex-found (objectAt (log .dispatcher .objects) key) (r .0) (r .1)) ∙ eq-eqb (r .0 .owner) 0 (r .2))
         ∙ none-available all (record { kind = 0; key = key }) m)
 

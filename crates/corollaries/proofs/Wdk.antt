@@ -26,13 +26,13 @@ use Rattle.model.proofs.RowLaws.{passes, known}
 use Rattle.model.proofs.WdkLaws as wdk
 use Rattle.model.proofs.WdkLaws.{step-is}
 use Rattle.model.proofs.TimerLaws as timers
+use Rattle.model.proofs.Told.{timer-told, told-timer}
 use Rattle.theorem.specs.History.{Proper}
 use Rattle.theorem.specs.Theorem.{logged, end}
 use Rattle.corollaries.specs.Reads.{TimerRead}
 use Rattle.corollaries.specs.Refusals.{isRefused}
 use Rattle.corollaries.specs.Cancels.{CancelSays}
 use Rattle.corollaries.proofs.Next.{next, next-but-one, valid}
-use Rattle.corollaries.proofs.Told.{timer-told, told-timer}
 use Rattle.corollaries.proofs.Refusals.{passed-by}
 
 -- the signed due sets the timer as the due that it means does

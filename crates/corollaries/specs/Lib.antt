@@ -1,7 +1,11 @@
 pub mod Reads
 pub mod SetEvent
+pub mod Wakes
 pub mod Refusals
 pub mod Cancels
 pub mod Dispatches
 pub mod Queue
 pub mod Waiters
+pub mod Idle
+pub mod Turns
+pub mod Leaving

@@ -5,12 +5,9 @@ use mathlib.Core.Bool.{cond}
 use mathlib.Core.Option.{some}
 use mathlib.Core.Path.{_≡_}
 use Rattle.model.specs.Lists.{nth}
-use Rattle.model.specs.State.{Thread, Wait, ready, waiting, satisfied, Named}
+use Rattle.model.specs.State.{Thread, Wait, ready, waiting, satisfied}
+use Rattle.model.specs.Wakes.{eventNamed}
 use Rattle.corollaries.specs.Reads.{ThreadRead}
-
--- the event as a wait's list names it
-abbrev pub eventNamed : ℕ → Named
-eventNamed key = record { kind = 1; key = key }
 
 -- the thread is ready, and its wait was satisfied with this index
 pub record ReadyWith (after : List ℕ) (i k : ℕ) : Type 0 where

@@ -1,2 +1,4 @@
 pub mod AnswerLaws
 pub mod RecordLaws
+pub mod ReadBackLaws
+pub mod SizingCallLaws

@@ -1,3 +1,5 @@
 pub mod SchedulerAnswer
 pub mod RecordAnswer
 pub mod RecordCall
+pub mod ReadBack
+pub mod SizingCall

@@ -1,15 +1,16 @@
 -- Laws of lists.
-use Prim.Native.Nat.{ℕ, suc, _≤_, _<_, max}
+use Prim.Native.Nat.{ℕ, zero, suc, _≤_, _<_, max}
 use mathlib.Core.List.{List, [], _∷_, _++_}
 use mathlib.Core.Bool.{Bool, true, false, cond, not}
 use mathlib.Core.Path.{_≡_, refl, sym, ap, _∙_, subst}
 use mathlib.Core.Logic.{_⊎_, inl, inr, ⊎-elim}
+use mathlib.Core.Option.{Option, some}
 use native.Mathlib.Omega.{arith}
 use native.Mathlib.Decide.{ℕ-discrete}
 use borrow.Author.Tests.{eq-eqb, ne-eqb, eqb-true}
 use lib.Dec.{eqb}
 use lib.ListN.{length}
-use Rattle.model.specs.Lists.{keep, any, every, without, Mem, Distinct, largest, member, first}
+use Rattle.model.specs.Lists.{keep, any, every, nth, without, Mem, Distinct, largest, member, first}
 use Rattle.model.specs.Valid.{RisingBy}
 
 pub not-both : true ≡ false → ⊥
@@ -125,6 +126,18 @@ module _ {A : Type 0} where
       only : Mem y (id ∷ []) → y ≡ id
       only (inl e) = e
       only (inr b) = absurd b
+
+  -- ---- at a position
+
+  pub nth-mem : (l : List A) (n : ℕ) (x : A) → nth l n ≡ some x → Mem x l
+  nth-mem [] n x e = let z : _≡_ {A = ℕ} 0 1 = cc in absurd (omega arith)
+  nth-mem (y ∷ l) zero x e = inl cc
+  nth-mem (y ∷ l) (suc n) x e = inr (nth-mem l n x e)
+
+  pub mem-nth : (l : List A) (x : A) → Mem x l → (n : ℕ) × (nth l n ≡ some x)
+  mem-nth [] x m = absurd m
+  mem-nth (y ∷ l) x (inl e) = (0, ap {B = Option A} some (sym e))
+  mem-nth (y ∷ l) x (inr m) = let r = mem-nth l x m in (suc (r .0), r .1)
 
 -- ---- `without`
 

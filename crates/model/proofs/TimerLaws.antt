@@ -28,7 +28,7 @@ use Rattle.model.proofs.TableLaws.{some-same, found, mem-found, find-pu
 use Rattle.model.proofs.ObjectLaws.{timer-found, coreOf}
 use Rattle.model.proofs.SoundLaws.{sound-objects}
 use Rattle.model.proofs.WakeLaws.{wake-quiet, timed-out}
-use Rattle.model.proofs.ExpiryLaws.{Pending, all-expired, pending-on, due-pending}
+use Rattle.model.proofs.ExpiryLaws.{expired-is, Pending, all-expired, pending-on, due-pending}
 use Rattle.model.proofs.OrderLaws.{due-listed, listed-due}
 use Rattle.model.proofs.RowLaws.{passes}
 use Rattle.model.proofs.KeepTimers.{begun}
@@ -36,21 +36,13 @@ use Rattle.model.proofs.WdkLaws.{step-is}
 
 -- ---- what the expiry leaves of each timer
 
-expired-address : (now : ℕ) (t : Timer) → expired now t .address ≡ t .address
-unfolding expired
-expired-address now t = go (isPeriodic t)
-  where
-    go : (b : Bool) → cond b (retimed t true true (nextDue (t .due) (t .«period_ms») now)) (retimed t true false (t .due)) .address ≡ t .address
-    go true = refl
-    go false = refl
-
 -- those that are not listed stay as they are
 unlisted : (policy : Policy) (now : ℕ) (ts : List Timer) (e : Expired) (k : ℕ) → ((u : Timer) → Mem u ts → u .address ≡ k → ⊥) → objectAt (expireEach policy now e ts .objects) k ≡ objectAt (e .objects) k
 unlisted policy now [] e k h = refl
 unlisted policy now (t ∷ ts) e k h = unlisted policy now ts (expireOne policy now e t) k (λ u m. h u (inr m)) ∙ one
   where
     one : objectAt (expireOne policy now e t .objects) k ≡ objectAt (e .objects) k
-    one = unfold expireOne in (find-put-other keyOf (timer (expired now t)) (e .objects) k (λ z. h t (inl refl) (sym (z ∙ expired-address now t))))
+    one = unfold expireOne in (find-put-other keyOf (timer (expired now t)) (e .objects) k (λ z. h t (inl refl) (sym (z ∙ expired-is now t .0))))
 
 -- the others are expired
 listed-expired : (policy : Policy) (now : ℕ) (ts : List Timer) (e : Expired) → Pending (e .objects) ts → (t : Timer) → Mem t ts → objectAt (expireEach policy now e ts .objects) (t .address) ≡ some (timer (expired now t))
@@ -60,7 +52,7 @@ listed-expired policy now (x ∷ xs) e p t (inl q) =
     ∙ unlisted policy now xs (expireOne policy now e x) (x .address) (p .2) ∙ one ∙ ap {B = Option Object} (λ (y : Timer). some (timer (expired now y))) (sym q)
   where
     one : objectAt (expireOne policy now e x .objects) (x .address) ≡ some (timer (expired now x))
-    one = unfold expireOne in (ap (objectAt (putObject (timer (expired now x)) (e .objects))) (sym (expired-address now x)) ∙ find-put-own keyOf (timer (expired now x)) (e .objects))
+    one = unfold expireOne in (ap (objectAt (putObject (timer (expired now x)) (e .objects))) (sym (expired-is now x .0)) ∙ find-put-own keyOf (timer (expired now x)) (e .objects))
 listed-expired policy now (x ∷ xs) e p t (inr m) = listed-expired policy now xs (expireOne policy now e x) (pending-on policy now e x xs p) t m
 
 -- ---- after an advance

@@ -36,7 +36,7 @@ can-wake d ready e = absurd (not-both (sym e))
 can-wake d (waiting w) e = refl
 can-wake d (exited n) e = absurd (not-both (sym e))
 
-waits-not : (x : Status) → isWaiting x ≡ true → hasExited x ≡ false
+pub waits-not : (x : Status) → isWaiting x ≡ true → hasExited x ≡ false
 waits-not running e = refl
 waits-not ready e = refl
 waits-not (waiting w) e = refl
@@ -181,7 +181,7 @@ wake-in-time lim d s now q = pass-in-time lim (d .waiters) d s now q
 -- ---- timeouts
 
 -- the numbers of the threads that pass a test: all of them, and threads
-numbers-all : (f : Thread → Bool) (n : ℕ) (l : List Thread) (i : ℕ) → f (threadAt l (suc i)) ≡ true → suc i ≤ length l → Mem (n + i) (numbersOf f n l)
+pub numbers-all : (f : Thread → Bool) (n : ℕ) (l : List Thread) (i : ℕ) → f (threadAt l (suc i)) ≡ true → suc i ≤ length l → Mem (n + i) (numbersOf f n l)
 numbers-all f n [] i t h = absurd (omega arith)
 numbers-all f n (x ∷ xs) zero t h = subst (Mem (n + 0)) (sym (ap (λ (b : Bool). cond b (n ∷ numbersOf f (suc n) xs) (numbersOf f (suc n) xs)) t)) (inl (let e : n + 0 ≡ n = omega arith in e))
 numbers-all f n (x ∷ xs) (suc i) t h = go (f x) (subst (λ (j : ℕ). Mem j (numbersOf f (suc n) xs)) (let e : suc n + i ≡ n + suc i = omega arith in e) (numbers-all f (suc n) xs i t (omega arith)))

@@ -17,3 +17,11 @@ pub mod Choice
 pub mod Wdk
 pub mod Order
 pub mod Fits
+pub mod Turns
+pub mod Idle
+pub mod Acceptance
+pub mod Behind
+pub mod Sums
+pub mod Leaving
+pub mod Wakes
+pub mod Sizing

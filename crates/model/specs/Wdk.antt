@@ -79,28 +79,28 @@ afterWait id (timer t) =
       initialization = t .initialization;
     })
 
--- the thread has taken the object; a thread that ended stays so
+-- the same page: the thread has taken the object; a thread that ended stays so
 abbrev pub TakenBy : ℕ → List Object → List Object → Named → Type 0
 TakenBy id before after n = (o : Object) → namedIn before n ≡ some o → objectAt after (n .key) ≡ some (afterWait id o)
 
--- the list names the object with this key; a thread is no object of the table, and its number is no key
+-- the page's Object array names the object with this key; a thread is no object of the table, and its number is no key
 abbrev pub NamesObject : Named → ℕ → Type 0
 NamesObject n k = (k ≡ n .key) × (n .kind ≡ 3 → ⊥)
 
--- WaitAny: the lowest index among the objects that are signaled, which alone is taken
+-- the page's WaitAny: the lowest index among the objects that are signaled, which alone is taken
 pub record WaitAny (before after : State) (id : ℕ) (ns : List Named) (i : ℕ) : Type 0 where
   pub which : Named
   pub lowest : LowestSignaled before ns i which
   pub taken : TakenBy id (before .dispatcher .objects) (after .dispatcher .objects) which
   pub alone : (k : ℕ) → (NamesObject which k → ⊥) → objectAt (after .dispatcher .objects) k ≡ objectAt (before .dispatcher .objects) k
 
--- WaitAll: success once every one is, all taken together
+-- the page's WaitAll: success once every one is, all taken together
 pub record WaitAll (before after : State) (id : ℕ) (ns : List Named) : Type 0 where
   pub every : (n : Named) → Mem n ns → signaledNow before n ≡ true
   pub taken : (n : Named) → Mem n ns → TakenBy id (before .dispatcher .objects) (after .dispatcher .objects) n
   pub others : (k : ℕ) → ((n : Named) → Mem n ns → NamesObject n k → ⊥) → objectAt (after .dispatcher .objects) k ≡ objectAt (before .dispatcher .objects) k
 
--- the listed objects satisfy the wait: for WaitAny one of them is signaled, for WaitAll every one is
+-- the listed objects satisfy the wait, as that page has it: for WaitAny one of them is signaled, for WaitAll every one is
 abbrev pub isSatisfied : State → List Named → Bool → Bool
 isSatisfied s ns all = cond all (every (signaledNow s) ns) (any (signaledNow s) ns)
 

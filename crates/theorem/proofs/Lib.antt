@@ -1,3 +1,4 @@
 pub mod Agreed
 pub mod Start
+pub mod Runs
 pub mod Theorem

@@ -1,6 +1,6 @@
 -- The theorem over every list of calls.
 use Prim.Native.Nat.{ℕ}
-use mathlib.Core.List.{List, [], _∷_}
+use mathlib.Core.List.{List, _∷_}
 use mathlib.Core.Path.{refl, sym, ap, _∙_, subst}
 use lib.ListN.{length}
 use Rattle.words.specs.Layout as at
@@ -17,11 +17,13 @@ use Rattle.theorem.specs.History.{answersOn, Proper}
 use Rattle.theorem.specs.Theorem.{Theorem, logged, end}
 use Rattle.theorem.proofs.Agreed.{Agreed, agreed}
 use Rattle.theorem.proofs.Start.{agree-begun, first-done}
+use Rattle.theorem.proofs.Runs.{runs-right}
 
 pub theorem : (w : List ℕ) (start : Start) (calls : List Call) → Accepted (length w) start → Proper (length w) calls → Theorem w start calls
 theorem w start calls accepted proper = record {
   answers = ap (λ (x : Answer). x ∷ answersOn w₁ calls) (first-done w start accepted) ∙ ap (λ (l : List Answer). Done ∷ l) (r .same);
   ready = r .agree .queues;
+  runs = runs-right (end w start calls) (logged w start calls) (r .agree) valid (r .numbers);
   waiters = r .agree .waiters;
   queue = r .agree .work;
   active = r .agree .numbers at.active _ refl;

@@ -1,16 +1,19 @@
 -- The statement of the theorem: what holds after ANY list of calls that begins with a start that the table accepts, over ANY lent
 -- words. The log is told the calls alone; the words are what the code keeps.
-use Prim.Native.Nat.{ℕ}
+use Prim.Native.Nat.{ℕ, _≤_}
 use mathlib.Core.List.{List, _∷_}
-use mathlib.Core.Bool.{true}
+use mathlib.Core.Bool.{true, false}
 use mathlib.Core.Path.{_≡_}
 use lib.ListN.{length, getD}
 use Rattle.words.specs.Layout as at
 use Rattle.chains.specs.Ready.{waitersChain}
 use Rattle.form.specs.Form.{inForm}
+use Rattle.calls.specs.Run.{answered, left}
+use Rattle.model.specs.Lists.{isEmpty}
 use Rattle.model.specs.State.{State}
-use Rattle.model.specs.Answer.{Done}
-use Rattle.model.specs.Call.{Call}
+use Rattle.model.specs.Choice.{Right}
+use Rattle.model.specs.Answer.{Done, Run}
+use Rattle.model.specs.Call.{Call, Dispatch}
 use Rattle.model.specs.Step as log
 use Rattle.model.specs.Start.{Start, firstCall, begun}
 use Rattle.model.specs.Valid.{Valid}
@@ -35,6 +38,10 @@ module _ (w : List ℕ) (start : Start) (calls : List Call) where
     pub answers : answersOn w (firstCall (length w) start ∷ calls) ≡ Done ∷ log.answers calls (begun start)
     -- the ready queue of each priority, with the ready word, holds the placed threads of that priority in the order of their placing
     pub ready : ReadyQueues end (queuesOf (logged .dispatcher .threads) (logged .dispatcher .placed))
+    -- with none current and some thread placed, a dispatch on an output that is long enough runs, of the highest priority, the thread
+    -- placed earliest, and the words say that it is current
+    pub runs : (n : ℕ) → logged .limits .threads ≤ n → logged .dispatcher .current ≡ 0 → isEmpty (logged .dispatcher .placed) ≡ false
+        → (i : ℕ) × (answered end (Dispatch n) ≡ Run i) × (Right (logged .dispatcher) i) × (getD (left end (Dispatch n)) at.current 0 ≡ i)
     -- the waiters' chain holds the waiting threads in the order of blocking
     pub waiters : Holds end waitersChain (logged .dispatcher .waiters)
     -- the DPC queue holds the queued DPCs in their order, by their numbers

@@ -1,2 +1,3 @@
 pub mod ReadyWord
 pub mod LayoutLaws
+pub mod RecordLaws

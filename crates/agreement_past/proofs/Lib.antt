@@ -1,0 +1,17 @@
+pub mod Kept
+pub mod Words
+pub mod Steps
+pub mod Running
+pub mod Work
+pub mod Arming
+pub mod Waiting
+pub mod Wakes
+pub mod Signals
+pub mod Timeouts
+pub mod Expiry
+pub mod TimersClosed
+pub mod DpcsClosed
+pub mod Retired
+pub mod Calls
+pub mod Objects
+pub mod Threads
