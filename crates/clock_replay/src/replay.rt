@@ -1,6 +1,6 @@
 // The steps of a sample, run on seven words through the clock's calls.
 use super::decimal;
-use clock_words::operations;
+use exports::clock_calls;
 
 pub struct Tally {
     pub steps: u64,
@@ -47,31 +47,44 @@ fn low(word: u64) -> u32 {
     (word & 0xffff_ffff) as u32
 }
 
+// A clock made in six words.
+fn new_short(a: u64, b: u64, step: &[u64]) -> u64 {
+    let mut clock = [0u64; 6];
+    clock_calls::clock_new(
+        &mut clock,
+        a,
+        b,
+        minutes(words::get(step, 3)),
+        low(words::get(step, 4)),
+    )
+}
+
 fn call(clock: &mut [u64], out: &mut [u64], step: &[u64]) -> u64 {
     let op = words::get(step, 0);
     let a = words::get(step, 1);
     let b = words::get(step, 2);
     match op {
-        0 => operations::new(
+        0 => clock_calls::clock_new(
             clock,
             a,
             b,
             minutes(words::get(step, 3)),
             low(words::get(step, 4)),
         ),
-        1 => operations::instruction(clock),
-        2 => operations::flush_cycles(clock),
-        3 => operations::observe(clock),
-        4 => operations::advance_microseconds(clock, a),
-        5 => operations::advance_100ns(clock, a),
-        6 => operations::advance_milliseconds(clock, low(a)),
-        7 => operations::qpc(clock, out),
-        8 => operations::tick64(clock, out),
-        9 => operations::tsc(clock, out),
+        1 => clock_calls::clock_instruction(clock),
+        2 => clock_calls::clock_flush_cycles(clock),
+        3 => clock_calls::clock_observe(clock),
+        4 => clock_calls::clock_advance_microseconds(clock, a),
+        5 => clock_calls::clock_advance_100ns(clock, a),
+        6 => clock_calls::clock_advance_milliseconds(clock, low(a)),
+        7 => clock_calls::clock_qpc(clock, out),
+        8 => clock_calls::clock_tick64(clock, out),
+        9 => clock_calls::clock_tsc(clock, out),
         10 => {
             words::put(clock, a as usize, b);
             0
         }
+        11 => new_short(a, b, step),
         // No sample has this number.
         _ => 28,
     }

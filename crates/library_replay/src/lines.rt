@@ -5,7 +5,7 @@ use super::show;
 use libc::STDOUT_FILENO;
 use script_lex::lex;
 
-// How many bytes of the present line have come, its number, and how often its call is made.
+// How many bytes of the present line have come, its number, how often its call is made, and how many mutexes are read.
 pub struct Place {
     pub used: usize,
     pub number: u64,
@@ -44,13 +44,12 @@ fn numbers_of(line: &[u8], numbers: &mut [u64]) -> usize {
     count
 }
 
-// The most keys of mutexes that are read.
-const KEYS: usize = 16;
-
-fn keep_keys(numbers: &[u64], keys: &mut [u64]) {
+// The keys of a new list's mutexes; of what was shown before nothing stays.
+fn keep_keys(numbers: &[u64], kept: &mut [u64]) {
+    show::forget(kept);
     let mut i: usize = 0;
-    while i < KEYS {
-        words::put(keys, i, words::get(numbers, i));
+    while i < show::KEYS {
+        words::put_in(kept, show::KEYS_AT, i, words::get(numbers, i));
         i += 1;
     }
 }
@@ -59,6 +58,7 @@ fn fewer(a: usize, b: usize) -> usize {
     if a < b { a } else { b }
 }
 
+// The call of a line, as often as it is to be made. What the last one answers stands in `out`.
 fn call(
     w: &mut [u64],
     waiting: &mut [u64],
@@ -78,26 +78,26 @@ fn call(
     }
 }
 
-// The call of a line is made, and its answer and what it changed are written.
-fn perform(
-    w: &mut [u64],
-    waiting: &mut [u64],
-    bytes: &mut [u8],
-    out: &mut [u64],
-    numbers: &[u64],
-    keys: &[u64],
-    shown: &mut [u64],
-    line: &[u8],
-    count: usize,
-    p: Place,
-) {
-    call(w, waiting, bytes, out, line, numbers, count, p.times);
+// The call is made, and its answer written.
+fn perform(w: &mut [u64], line: &[u8], numbers: &[u64], count: usize, p: Place) {
+    let mut waiting = [0u64; 256];
+    let mut bytes = [0u8; 64];
+    let mut out = [0u64; 24];
+    call(
+        w,
+        &mut waiting,
+        &mut bytes,
+        &mut out,
+        line,
+        numbers,
+        count,
+        p.times,
+    );
     io::print_decimal(STDOUT_FILENO, p.number);
     io::write_all(STDOUT_FILENO, b" ");
-    show::answer(out);
-    show::beside(out, line, waiting, bytes);
+    show::answer(&out);
+    show::beside(&out, line, &waiting, &bytes);
     show::end_line();
-    reads::state(w, keys, p.keys, shown, out);
 }
 
 // The place behind a line.
@@ -110,48 +110,28 @@ fn next(p: Place, times: u64, keys: usize) -> Place {
     }
 }
 
-fn finish(
-    w: &mut [u64],
-    waiting: &mut [u64],
-    bytes: &mut [u8],
-    out: &mut [u64],
-    numbers: &mut [u64],
-    keys: &mut [u64],
-    shown: &mut [u64],
-    line: &[u8],
-    p: Place,
-) -> Place {
-    let count = numbers_of(line, numbers);
+fn finish(w: &mut [u64], kept: &mut [u64], line: &[u8], p: Place) -> Place {
+    let mut numbers = [0u64; 160];
+    let count = numbers_of(line, &mut numbers);
     if lex::is_word(line, 0, b"times") {
-        return next(p, words::get(numbers, 0), p.keys);
+        return next(p, words::get(&numbers, 0), p.keys);
     }
     if lex::is_word(line, 0, b"keys") {
-        keep_keys(numbers, keys);
-        show::forget(shown);
-        return next(p, 1, fewer(count, KEYS));
+        keep_keys(&numbers, kept);
+        return next(p, 1, fewer(count, show::KEYS));
     }
-    perform(w, waiting, bytes, out, numbers, keys, shown, line, count, p);
+    perform(w, line, &numbers, count, p);
+    reads::state(w, p.keys, kept);
     next(p, 1, p.keys)
 }
 
-fn byte(
-    w: &mut [u64],
-    waiting: &mut [u64],
-    bytes: &mut [u8],
-    out: &mut [u64],
-    numbers: &mut [u64],
-    keys: &mut [u64],
-    shown: &mut [u64],
-    line: &mut [u8],
-    b: u8,
-    p: Place,
-) -> Place {
+fn byte(w: &mut [u64], kept: &mut [u64], line: &mut [u8], b: u8, p: Place) -> Place {
     let n = p.used;
     if b == b'\n' {
         if line.len() < n {
             return p;
         }
-        return finish(w, waiting, bytes, out, numbers, keys, shown, &line[..n], p);
+        return finish(w, kept, &line[..n], p);
     }
     if n < line.len() {
         line[n] = b;
@@ -165,33 +145,11 @@ fn byte(
     p
 }
 
-pub fn take(
-    w: &mut [u64],
-    waiting: &mut [u64],
-    bytes: &mut [u8],
-    out: &mut [u64],
-    numbers: &mut [u64],
-    keys: &mut [u64],
-    shown: &mut [u64],
-    line: &mut [u8],
-    chunk: &[u8],
-    p: Place,
-) -> Place {
+pub fn take(w: &mut [u64], kept: &mut [u64], line: &mut [u8], chunk: &[u8], p: Place) -> Place {
     let mut at = p;
     let mut i: usize = 0;
     while i < chunk.len() {
-        at = byte(
-            w,
-            waiting,
-            bytes,
-            out,
-            numbers,
-            keys,
-            shown,
-            line,
-            chunk[i],
-            at,
-        );
+        at = byte(w, kept, line, chunk[i], at);
         i += 1;
     }
     at

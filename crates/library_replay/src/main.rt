@@ -10,12 +10,7 @@ use libc::STDIN_FILENO;
 // The loop counts its turns down, from a number that no run uses up.
 fn main() {
     let mut w = [0u64; 303360];
-    let mut waiting = [0u64; 256];
-    let mut bytes = [0u8; 64];
-    let mut out = [0u64; 24];
-    let mut numbers = [0u64; 160];
-    let mut keys = [0u64; 16];
-    let mut shown = [0u64; 20160];
+    let mut kept = [0u64; 20184];
     let mut line = [0u8; 4096];
     let mut at = lines::start();
     let mut turns = u64::MAX;
@@ -26,18 +21,7 @@ fn main() {
             break;
         }
         let n = io::count(got, &chunk);
-        at = lines::take(
-            &mut w,
-            &mut waiting,
-            &mut bytes,
-            &mut out,
-            &mut numbers,
-            &mut keys,
-            &mut shown,
-            &mut line,
-            &chunk[..n],
-            at,
-        );
+        at = lines::take(&mut w, &mut kept, &mut line, &chunk[..n], at);
         turns -= 1;
     }
 }

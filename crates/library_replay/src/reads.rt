@@ -51,62 +51,53 @@ fn at_position(first: usize, w: &[u64], position: u64, out: &mut [u64]) -> u64 {
     }
 }
 
-fn read_at(first: usize, w: &[u64], position: u64, out: &mut [u64]) {
-    show::clear(out);
-    let number = at_position(first, w, position, out);
-    show::refuse(out, number);
+// An object of a thread's wait, if there is one.
+fn object(w: &[u64], id: u64, position: u64) -> bool {
+    let mut out = [0u64; 24];
+    let number = thread_calls::scheduler_waited_object(w, id, position, &mut out);
+    show::refuse(&mut out, number);
+    if words::get(&out, 0) == show::NONE {
+        return false;
+    }
+    io::write_all(STDOUT_FILENO, b", ");
+    show::answer(&out);
+    true
 }
 
-// The objects of a thread's wait, as far as there are.
-fn objects(w: &[u64], id: u64, out: &mut [u64]) {
+fn objects(w: &[u64], id: u64) {
     let mut position: u64 = 0;
     while position < 65 {
-        show::clear(out);
-        let number = thread_calls::scheduler_waited_object(w, id, position, out);
-        show::refuse(out, number);
-        if words::get(out, 0) == show::NONE {
+        if !object(w, id, position) {
             return;
         }
-        io::write_all(STDOUT_FILENO, b", ");
-        show::answer(out);
         position += 1;
     }
 }
 
-// What else is told of a thread.
-fn wait_of(first: usize, w: &[u64], id: u64, out: &mut [u64]) {
-    if first == THREADS {
-        objects(w, id, out);
-    }
-}
-
 // The answer at a position, if it is news; whether there may be one behind it.
-fn shows(
-    first: usize,
-    i: usize,
-    name: &[u8],
-    w: &[u64],
-    shown: &mut [u64],
-    out: &mut [u64],
-) -> bool {
-    read_at(first, w, i as u64, out);
+fn shows(first: usize, i: usize, name: &[u8], w: &[u64], kept: &mut [u64]) -> bool {
+    let mut out = [0u64; 24];
+    let number = at_position(first, w, i as u64, &mut out);
+    show::refuse(&mut out, number);
     let at = place(first, i);
-    if show::is_past(shown, at, out) {
+    if show::is_past(kept, at, &out) {
         return false;
     }
-    if show::is_news(shown, at, out) {
+    if show::is_news(kept, at, &out) {
         show::title_of(name, i as u64);
-        show::answer(out);
-        wait_of(first, w, words::get(out, 1), out);
+        show::answer(&out);
+        if first == THREADS {
+            objects(w, words::get(&out, 1));
+        }
         show::end_line();
     }
     true
 }
 
-fn table(first: usize, most: usize, name: &[u8], w: &[u64], shown: &mut [u64], out: &mut [u64]) {
+fn table(first: usize, most: usize, name: &[u8], w: &[u64], kept: &mut [u64]) {
     let mut i: usize = 0;
     while i < most {
-        if !shows(first, i, name, w, shown, out) {
+        if !shows(first, i, name, w, kept) {
             return;
         }
         i += 1;
@@ -115,37 +106,38 @@ fn table(first: usize, most: usize, name: &[u8], w: &[u64], shown: &mut [u64], o
 
 // ---- mutexes, which are read by key alone
 
-fn mutex(key: u64, at: usize, name: &[u8], shown: &mut [u64], out: &[u64]) {
-    if show::is_news(shown, at, out) {
-        show::title_of(name, key);
-        show::answer(out);
+fn owner(w: &[u64], key: u64, i: usize, kept: &mut [u64]) {
+    let mut out = [0u64; 24];
+    let number = scheduler_calls::scheduler_mutex_owner(w, key, &mut out);
+    show::refuse(&mut out, number);
+    if show::is_news(kept, place(OWNERS, i), &out) {
+        show::title_of(b"owner", key);
+        show::answer(&out);
         show::end_line();
     }
 }
 
-fn read_owner(w: &[u64], key: u64, out: &mut [u64]) {
-    show::clear(out);
-    let number = scheduler_calls::scheduler_mutex_owner(w, key, out);
-    show::refuse(out, number);
+fn waiters(w: &[u64], key: u64, i: usize, kept: &mut [u64]) {
+    let mut out = [0u64; 24];
+    let number = scheduler_calls::scheduler_mutex_waiters(w, key, &mut out);
+    show::refuse(&mut out, number);
+    if show::is_news(kept, place(WAITERS, i), &out) {
+        show::title_of(b"waiters", key);
+        show::answer(&out);
+        show::end_line();
+    }
 }
 
-fn read_waiters(w: &[u64], key: u64, out: &mut [u64]) {
-    show::clear(out);
-    let number = scheduler_calls::scheduler_mutex_waiters(w, key, out);
-    show::refuse(out, number);
+fn mutex(w: &[u64], i: usize, kept: &mut [u64]) {
+    let key = words::get_in(kept, show::KEYS_AT, i);
+    owner(w, key, i, kept);
+    waiters(w, key, i, kept);
 }
 
-fn mutex_at(w: &[u64], key: u64, i: usize, shown: &mut [u64], out: &mut [u64]) {
-    read_owner(w, key, out);
-    mutex(key, place(OWNERS, i), b"owner", shown, out);
-    read_waiters(w, key, out);
-    mutex(key, place(WAITERS, i), b"waiters", shown, out);
-}
-
-fn mutexes(w: &[u64], keys: &[u64], count: usize, shown: &mut [u64], out: &mut [u64]) {
+fn mutexes(w: &[u64], count: usize, kept: &mut [u64]) {
     let mut i: usize = 0;
     while i < count {
-        mutex_at(w, words::get(keys, i), i, shown, out);
+        mutex(w, i, kept);
         i += 1;
     }
 }
@@ -165,46 +157,42 @@ fn read(index: usize, w: &[u64], out: &mut [u64]) -> u64 {
     }
 }
 
-fn single(index: usize, name: &[u8], w: &[u64], shown: &mut [u64], out: &mut [u64]) {
-    show::clear(out);
-    let number = read(index, w, out);
-    show::refuse(out, number);
-    if show::is_news(shown, place(SINGLE, index), out) {
+fn single(index: usize, name: &[u8], w: &[u64], kept: &mut [u64]) {
+    let mut out = [0u64; 24];
+    let number = read(index, w, &mut out);
+    show::refuse(&mut out, number);
+    if show::is_news(kept, place(SINGLE, index), &out) {
         show::title(name);
-        show::answer(out);
+        show::answer(&out);
         show::end_line();
     }
 }
 
-fn timers(w: &[u64], shown: &mut [u64], out: &mut [u64]) {
-    table(TIMERS, POSITIONS, b"timer", w, shown, out);
-    single(1, b"pending timer", w, shown, out);
-    single(2, b"timer initializations", w, shown, out);
+fn threads_and_objects(w: &[u64], count: usize, kept: &mut [u64]) {
+    single(0, b"current", w, kept);
+    table(THREADS, MOST_THREADS, b"thread", w, kept);
+    mutexes(w, count, kept);
+    table(EVENTS, POSITIONS, b"event", w, kept);
 }
 
-fn dpcs(w: &[u64], shown: &mut [u64], out: &mut [u64]) {
-    table(DPCS, POSITIONS, b"dpc", w, shown, out);
-    single(3, b"dpc initializations", w, shown, out);
-    table(QUEUE, POSITIONS, b"queued", w, shown, out);
+fn timers_and_dpcs(w: &[u64], kept: &mut [u64]) {
+    table(TIMERS, POSITIONS, b"timer", w, kept);
+    single(1, b"pending timer", w, kept);
+    single(2, b"timer initializations", w, kept);
+    table(DPCS, POSITIONS, b"dpc", w, kept);
+    single(3, b"dpc initializations", w, kept);
 }
 
-fn work(w: &[u64], shown: &mut [u64], out: &mut [u64]) {
-    single(4, b"active", w, shown, out);
-    single(5, b"next", w, shown, out);
-    single(6, b"policy", w, shown, out);
-    single(7, b"counters", w, shown, out);
+fn work(w: &[u64], kept: &mut [u64]) {
+    table(QUEUE, POSITIONS, b"queued", w, kept);
+    single(4, b"active", w, kept);
+    single(5, b"next", w, kept);
+    single(6, b"policy", w, kept);
+    single(7, b"counters", w, kept);
 }
 
-fn threads_and_objects(w: &[u64], keys: &[u64], count: usize, shown: &mut [u64], out: &mut [u64]) {
-    single(0, b"current", w, shown, out);
-    table(THREADS, MOST_THREADS, b"thread", w, shown, out);
-    mutexes(w, keys, count, shown, out);
-    table(EVENTS, POSITIONS, b"event", w, shown, out);
-}
-
-pub fn state(w: &[u64], keys: &[u64], count: usize, shown: &mut [u64], out: &mut [u64]) {
-    threads_and_objects(w, keys, count, shown, out);
-    timers(w, shown, out);
-    dpcs(w, shown, out);
-    work(w, shown, out);
+pub fn state(w: &[u64], count: usize, kept: &mut [u64]) {
+    threads_and_objects(w, count, kept);
+    timers_and_dpcs(w, kept);
+    work(w, kept);
 }

@@ -5,6 +5,11 @@ use script_lex::lex;
 // The words of an answer: a tag, its values, and last the number of the refusal.
 pub const ANSWER: usize = 24;
 
+// What is kept between calls: the answers last shown, each at its place, and behind them the keys of the mutexes that are read.
+pub const KEYS_AT: usize = 20160;
+
+pub const KEYS: usize = 16;
+
 const REFUSED: usize = 23;
 
 pub const NONE: u64 = 2;
@@ -23,10 +28,10 @@ pub fn refuse(out: &mut [u64], number: u64) {
     words::put(out, REFUSED, number);
 }
 
-pub fn forget(shown: &mut [u64]) {
+pub fn forget(kept: &mut [u64]) {
     let mut i: usize = 0;
-    while i < shown.len() {
-        words::put(shown, i, 0);
+    while i < kept.len() {
+        words::put(kept, i, 0);
         i += 1;
     }
 }
@@ -132,10 +137,10 @@ pub fn beside(out: &[u64], line: &[u8], waiting: &[u64], bytes: &[u8]) {
     }
 }
 
-fn same(shown: &[u64], at: usize, out: &[u64]) -> bool {
+fn same(kept: &[u64], at: usize, out: &[u64]) -> bool {
     let mut i: usize = 0;
     while i < ANSWER {
-        if words::get_in(shown, at, i) != words::get(out, i) {
+        if words::get_in(kept, at, i) != words::get(out, i) {
             return false;
         }
         i += 1;
@@ -143,20 +148,20 @@ fn same(shown: &[u64], at: usize, out: &[u64]) -> bool {
     true
 }
 
-fn keep(shown: &mut [u64], at: usize, out: &[u64]) {
+fn keep(kept: &mut [u64], at: usize, out: &[u64]) {
     let mut i: usize = 0;
     while i < ANSWER {
-        words::put_in(shown, at, i, words::get(out, i));
+        words::put_in(kept, at, i, words::get(out, i));
         i += 1;
     }
 }
 
 // Whether the answer is none, and so was the last one shown at this place, or none has been.
-pub fn is_past(shown: &[u64], at: usize, out: &[u64]) -> bool {
+pub fn is_past(kept: &[u64], at: usize, out: &[u64]) -> bool {
     if words::get(out, 0) != NONE {
         return false;
     }
-    let last = words::get_in(shown, at, 0);
+    let last = words::get_in(kept, at, 0);
     if last == 0 {
         return true;
     }
@@ -164,11 +169,11 @@ pub fn is_past(shown: &[u64], at: usize, out: &[u64]) -> bool {
 }
 
 // Whether the answer differs from the last one shown at this place; it is the last one now.
-pub fn is_news(shown: &mut [u64], at: usize, out: &[u64]) -> bool {
-    if same(shown, at, out) {
+pub fn is_news(kept: &mut [u64], at: usize, out: &[u64]) -> bool {
+    if same(kept, at, out) {
         return false;
     }
-    keep(shown, at, out);
+    keep(kept, at, out);
     true
 }
 

@@ -2,11 +2,11 @@
 use mathlib.Core.List.{[], _∷_}
 use mathlib.Core.Path.{_≡_, refl}
 use Rattle.script_lex.specs.Words.{blank, grown, pieces, full, wordsOf, first, others, none, same}
-use Rattle.script_lex.specs.Numbers.{allDigits, value, numberFrom, numberOf}
+use Rattle.script_lex.specs.Numbers.{allDigits, value, numberFrom, numberOf, plus, minus, signedOf}
 use Rattle.script_lex.specs.Arguments.{flagOf, oneOf, joinTwo, twoOf, joinThree, threeOf, withOne, withTwo, withThree, bareLine}
 use Rattle.script_lex.specs.Location.{architectureOf, imageOf, poolOf, imageLine, poolLine, backingOf, behindBacking, placed, locationOf, behindLocation, withLocation}
 use Rattle.script_timers.specs.Dpc.{routineBehind, initializeDpcLine, dpcWorkLine, dpcLine}
-use Rattle.script_timers.specs.Timers.{timerMemoryLine, timerLine}
+use Rattle.script_timers.specs.Timers.{setOf, setBehind, setTimerLine, timerMemoryLine, timerLine}
 use Rattle.script_timers.specs.Clock.{clockLine}
 use Rattle.script.specs.Wait.{kindOf, itemOf, isRead, told, pairsOf, waitCommand, withIrql, waitFrom, withDeadline, waitUntil, waitLine}
 use Rattle.script.specs.Scheduler.{withFlags, flagged, eventLine, threadLine, eventsLine, mutexLine, shortLine}
@@ -28,5 +28,5 @@ unfolding script said begin asked whenOpen whenClosed blank grown pieces full wo
 example st = refl
 
 pub silent-calls : meanings (readAll [] silent) ≡ silentCalls
-unfolding silent silentCalls asked blank grown pieces full wordsOf first others none same allDigits value numberFrom numberOf oneOf joinTwo twoOf joinThree threeOf withOne withTwo withThree bareLine architectureOf imageOf poolOf imageLine poolLine backingOf behindBacking placed locationOf behindLocation withLocation routineBehind initializeDpcLine dpcWorkLine dpcLine timerMemoryLine timerLine clockLine threadLine eventsLine mutexLine shortLine textLength textLine readLine
+unfolding silent silentCalls asked blank grown pieces full wordsOf first others none same allDigits value numberFrom numberOf plus minus signedOf flagOf oneOf joinTwo twoOf joinThree threeOf withOne withTwo withThree bareLine architectureOf imageOf poolOf imageLine poolLine backingOf behindBacking placed locationOf behindLocation withLocation routineBehind initializeDpcLine dpcWorkLine dpcLine setOf setBehind setTimerLine timerMemoryLine timerLine clockLine threadLine eventsLine mutexLine shortLine textLength textLine readLine
 silent-calls = refl

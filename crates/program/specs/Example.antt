@@ -1,7 +1,8 @@
 -- Document 01's example script, and what it prints; and lines of which no answer of a script tells the arguments.
 use Prim.Native.Nat.{ℕ}
 use mathlib.Core.List.{List, [], _∷_}
-use mathlib.Core.Bool.{false}
+use mathlib.Core.Bool.{true, false}
+use lib.IntN.{negsuc}
 use Rattle.arch.specs.declared.Architecture.the-variants.{X86}
 use Rattle.images.specs.declared.TimerBacking.the-variants.{Image}
 use Rattle.script_lex.specs.Text.{bytesOf}
@@ -24,7 +25,7 @@ script =
 unfoldable pub said : List Answer
 said = Done ∷ Done ∷ ThreadNumber 2 ∷ Blocked ∷ Run 2 ∷ Flag false ∷ Done ∷ Run 2 ∷ []
 
--- ---- a thread's exit status, and what a DPC is given
+-- ---- a thread's exit status, what a DPC is given, and how a timer is set
 
 unfoldable pub silent : List (List ℕ)
 silent =
@@ -32,13 +33,15 @@ silent =
     ∷ bytesOf "initialize_dpc 8192 x86 image 8192 4096 7 9"
     ∷ bytesOf "configure_dpc_dispatch 1 2"
     ∷ bytesOf "insert_queue_dpc 8192 3 4"
+    ∷ bytesOf "set_timer 4096 500 1 -6 8192"
     ∷ []
 
--- exit status 5; routine 7, context 9; a timer's work has 1 first and 2 second; this work 3 first and 4 second
+-- exit status 5; routine 7, context 9; a timer's work has 1 first and 2 second; this work 3 first and 4 second; due 500 absolute, period -6
 unfoldable pub silentCalls : List Asked
 silentCalls =
     calls (call.Terminate 5) tt
     ∷ calls (call.InitializeDpc 8192 X86 (Image 8192 4096) 7 9) tt
     ∷ calls (call.ConfigureDpcDispatch 1 2) tt
     ∷ calls (call.InsertQueueDpc 8192 3 4) tt
+    ∷ calls (call.SetTimer 4096 500 true (negsuc 5) 8192) tt
     ∷ []

@@ -1,7 +1,7 @@
 //! A sample to store: steps with the answer and the whole clock after each, one to a line.
 //! README.md has the meaning of each number.
 use super::reference::{Answer, Difference, Reference};
-use super::{BIAS, Call, Configuration, Words, edges, in_form};
+use super::{BIAS, Call, Configuration, FORM, Words, edges, in_form};
 use crate::random::Random;
 use crate::tally::{self, Tally};
 use std::collections::BTreeMap;
@@ -10,7 +10,7 @@ use std::fmt;
 /// How many attempts are made before each kind of answer may stand once more.
 const ATTEMPTS: u64 = 5000;
 
-/// At most `steps` lines, with all kinds of answer about equally often.
+/// At most `steps` lines, with all kinds of answer about equally often, and one for a clock that is lent too few words.
 pub fn lines(steps: usize, random: &Random) -> Result<Vec<Line>, String> {
     let mut reference = Reference::new();
     let opening = Call::New(Configuration {
@@ -34,6 +34,9 @@ pub fn lines(steps: usize, random: &Random) -> Result<Vec<Line>, String> {
         attempts += 1;
     }
     lines.truncate(steps);
+    if let Step::Call(opening) = lines[0].step {
+        lines.push(Line::short(&reference, opening));
+    }
     Ok(lines)
 }
 
@@ -72,6 +75,8 @@ enum Step {
     Call(Call),
     /// Sets a word of the clock, with no call.
     Put(usize, u64),
+    /// A call that is lent a word too few.
+    Short(Call),
 }
 
 /// A step, its answer, and the clock after it.
@@ -100,6 +105,15 @@ impl Line {
         }
     }
 
+    /// Document 01 alone decides: 27, and the clock is as it was.
+    fn short(reference: &Reference, call: Call) -> Self {
+        Self {
+            step: Step::Short(call),
+            answer: Answer::refused(FORM),
+            words: *reference.words(),
+        }
+    }
+
     /// `op a b c d`; nothing for an offset below the least that the biased word can hold.
     fn code(&self) -> Option<[u64; 5]> {
         Some(match self.step {
@@ -118,6 +132,14 @@ impl Line {
             Step::Call(Call::Tick64) => [8, 0, 0, 0, 0],
             Step::Call(Call::Tsc) => [9, 0, 0, 0, 0],
             Step::Put(word, value) => [10, word as u64, value, 0, 0],
+            Step::Short(call) => {
+                let whole = Self {
+                    step: Step::Call(call),
+                    ..*self
+                };
+                let [_, a, b, c, d] = whole.code()?;
+                [11, a, b, c, d]
+            }
         })
     }
 }

@@ -56,6 +56,7 @@ fn location(location: Location) -> Vec<u64> {
 
 /// Those of a call without a signed one.
 fn numbers(made: &Made) -> Vec<u64> {
+    let truth = |is: &bool| u64::from(*is) * made.yes;
     match &made.call {
         Call::SetTimer { .. } | Call::SetTimerSigned { .. } => vec![],
         Call::WordsNeeded(limits) => vec![limits.threads, limits.objects, limits.dpcs],
@@ -92,13 +93,13 @@ fn numbers(made: &Made) -> Vec<u64> {
         | Call::SetEvent { key }
         | Call::ResetEvent { key }
         | Call::EventState { key } => vec![*key],
-        Call::AdoptMutex { key, owned, owner } => vec![*key, (*owned).into(), *owner],
+        Call::AdoptMutex { key, owned, owner } => vec![*key, truth(owned), *owner],
         Call::InitializeEvent {
             key,
             manual,
             signaled,
         } => {
-            vec![*key, (*manual).into(), (*signaled).into()]
+            vec![*key, truth(manual), truth(signaled)]
         }
         Call::RequireEventRelease(Backing { base, size, layout })
         | Call::RetireEventBacking(Backing { base, size, layout }) => vec![*base, *size, *layout],
@@ -109,7 +110,7 @@ fn numbers(made: &Made) -> Vec<u64> {
             deadline,
             irql,
         } => {
-            let terms = [(*all).into(), (*timed).into(), *deadline, (*irql).into()];
+            let terms = [truth(all), truth(timed), *deadline, (*irql).into()];
             [&terms[..], list].concat()
         }
         Call::DelayUntil { deadline, irql } => vec![*deadline, (*irql).into()],
@@ -118,7 +119,7 @@ fn numbers(made: &Made) -> Vec<u64> {
         Call::InitializeTimer {
             location: at,
             manual,
-        } => [location(*at), vec![(*manual).into()]].concat(),
+        } => [location(*at), vec![truth(manual)]].concat(),
         Call::CancelTimer { address }
         | Call::Timer { address }
         | Call::Dpc { address }

@@ -8,6 +8,8 @@ pub struct Made {
     pub call: Call,
     pub lent: Lengths,
     pub times: u64,
+    /// The number that is given for yes.
+    pub yes: u64,
     /// An insertion whose work is taken out again at once.
     pub removed: bool,
 }
@@ -18,6 +20,7 @@ impl Made {
             call,
             lent,
             times: 1,
+            yes: 1,
             removed: false,
         }
     }

@@ -1,7 +1,7 @@
 //! Lists that no random one makes: each limit of a lifetime, dues at the end of time, openings.
 use super::made::Made;
 use crate::scheduler::reference::Lengths;
-use crate::scheduler::{Call, Limits, Location};
+use crate::scheduler::{Backing, Call, Limits, Location, Span};
 use emumee::pe::Architecture;
 use emumee::scheduler::TimerBacking;
 
@@ -20,6 +20,12 @@ pub fn lists() -> Vec<Vec<Made>> {
         expiries(),
         horizon(),
         arguments(),
+        policies(),
+        signaled_timer(),
+        neighbours(),
+        orders(),
+        waited_mutex(),
+        other_yes(),
     ]
 }
 
@@ -252,7 +258,7 @@ fn expiries() -> Vec<Made> {
         let sequence = index as u64 + 1;
         list.push(made(Call::StartDpc { address }));
         list.push(made(Call::DpcImage { address }));
-        list.push(made(Call::RetireTimerBacking(crate::scheduler::Span {
+        list.push(made(Call::RetireTimerBacking(Span {
             address: timers[0],
             size: 1,
         })));
@@ -261,7 +267,7 @@ fn expiries() -> Vec<Made> {
     }
     list.push(made(Call::CancelTimer { address: timers[0] }));
     list.push(made(Call::CancelTimer { address: timers[2] }));
-    list.push(made(Call::RetireTimerBacking(crate::scheduler::Span {
+    list.push(made(Call::RetireTimerBacking(Span {
         address: 0x10000,
         size: 0x1000,
     })));
@@ -318,4 +324,223 @@ fn arguments() -> Vec<Made> {
     list.push(made(Call::Terminate { status: 77 }));
     list.push(made(Call::Thread { id: 1 }));
     list
+}
+
+/// A policy once there is a thread, a DPC, time or a wait: each alone forbids it.
+fn policies() -> Vec<Made> {
+    let policy = made(Call::ConfigureDpcDispatch {
+        arguments: ARGUMENTS,
+    });
+    let event = 4096;
+    let mut list = vec![
+        open(),
+        made(Call::CreateThread { priority: 8 }),
+        policy.clone(),
+    ];
+    list.extend([open(), made(dpc(DPC)), policy.clone()]);
+    list.extend([open(), made(Call::AdvanceTo { time: 1 }), policy.clone()]);
+    list.push(open());
+    list.push(made(Call::InitializeEvent {
+        key: event,
+        manual: false,
+        signaled: false,
+    }));
+    list.push(made(wait(&[1, event], false)));
+    list.push(made(Call::SetEvent { key: event }));
+    list.push(made(Call::Dispatch));
+    list.push(made(Call::RetireEventBacking(Backing {
+        base: event,
+        size: 24,
+        layout: 24,
+    })));
+    list.push(policy);
+    list
+}
+
+fn wait(list: &[u64], all: bool) -> Call {
+    Call::Wait {
+        list: list.to_vec(),
+        all,
+        timed: false,
+        deadline: 0,
+        irql: 0,
+    }
+}
+
+/// A timer that is signaled does not count, though it is due again and awaited.
+fn signaled_timer() -> Vec<Made> {
+    let event = 4096;
+    vec![
+        open(),
+        made(timer(TIMER, true)),
+        made(Call::InitializeEvent {
+            key: event,
+            manual: false,
+            signaled: false,
+        }),
+        made(set(TIMER, 100, 1, 0)),
+        made(Call::AdvanceTo { time: 100 }),
+        made(wait(&[2, TIMER, 1, event], true)),
+        made(Call::Dispatch),
+        made(Call::SetEvent { key: event }),
+        made(Call::Dispatch),
+    ]
+}
+
+/// Memory that ends where other memory begins: events released, timers and DPCs behind events and mutexes, and at
+/// the end of what x86 addresses.
+fn neighbours() -> Vec<Made> {
+    let event = |key: u64| {
+        made(Call::InitializeEvent {
+            key,
+            manual: true,
+            signaled: true,
+        })
+    };
+    let mut list = vec![open(), event(4096), event(4120)];
+    list.push(made(Call::RetireEventBacking(Backing {
+        base: 4096,
+        size: 24,
+        layout: 24,
+    })));
+    for key in [TIMER - 23, TIMER - 24] {
+        list.extend([
+            open(),
+            event(key),
+            made(timer(TIMER, false)),
+            made(dpc(TIMER)),
+        ]);
+    }
+    for key in [TIMER - 55, TIMER - 56] {
+        list.extend([
+            open(),
+            made(Call::InitializeMutex { key }),
+            made(timer(TIMER, false)),
+            made(dpc(TIMER)),
+        ]);
+    }
+    let high = |address: u64| Location {
+        address,
+        architecture: Architecture::X86,
+        backing: TimerBacking::Image {
+            base: (1 << 32) - 4096,
+            size: 4100,
+        },
+    };
+    for address in [(1 << 32) - 40, (1 << 32) - 36] {
+        list.extend([
+            open(),
+            made(Call::InitializeTimer {
+                location: high(address),
+                manual: true,
+            }),
+        ]);
+    }
+    for address in [(1 << 32) - 32, (1 << 32) - 28] {
+        list.extend([
+            open(),
+            made(Call::InitializeDpc {
+                location: high(address),
+                routine: 1,
+                context: 2,
+            }),
+        ]);
+    }
+    list
+}
+
+/// Which of two refusals comes first, and the last insertion of a lifetime.
+fn orders() -> Vec<Made> {
+    let mut list = vec![
+        open(),
+        made(Call::Priority {
+            id: 99,
+            priority: 0,
+        }),
+    ];
+    let end = u64::MAX;
+    list.push(made(Call::ConfigureDpcDispatch {
+        arguments: ARGUMENTS,
+    }));
+    list.extend([
+        made(timer(TIMER, false)),
+        made(timer(OTHER, false)),
+        made(dpc(DPC)),
+    ]);
+    list.push(made(set(TIMER, end - 25_000, 1, DPC)));
+    list.push(made(Call::AdvanceTo { time: end - 25_000 }));
+    list.push(made(Call::StartDpc { address: DPC }));
+    list.push(made(set(OTHER, end - 16_000, 2, 0)));
+    list.push(made(Call::AdvanceTo { time: end - 10_001 }));
+    let insert = Call::InsertQueueDpc {
+        address: DPC,
+        arguments: [1, 2],
+    };
+    list.extend([
+        open(),
+        made(Call::ConfigureDpcDispatch {
+            arguments: ARGUMENTS,
+        }),
+        made(dpc(DPC)),
+    ]);
+    list.push(Made {
+        removed: true,
+        ..many(insert.clone(), LIFETIME - 1)
+    });
+    list.push(made(insert.clone()));
+    list.push(made(Call::RemoveQueueDpc { address: DPC }));
+    list.push(made(insert));
+    list
+}
+
+/// A mutex without an owner that is waited for, beside something that is not there.
+fn waited_mutex() -> Vec<Made> {
+    let (mutex, event) = (4096, 8192);
+    vec![
+        open(),
+        made(Call::InitializeMutex { key: mutex }),
+        made(Call::InitializeEvent {
+            key: event,
+            manual: false,
+            signaled: false,
+        }),
+        made(wait(&[0, mutex, 1, event], true)),
+        made(Call::InitializeMutex { key: mutex }),
+    ]
+}
+
+/// Yes as another number than 1.
+fn other_yes() -> Vec<Made> {
+    let yes = |call: Call, yes: u64| Made { yes, ..made(call) };
+    vec![
+        open(),
+        yes(timer(TIMER, true), 2),
+        yes(
+            Call::InitializeEvent {
+                key: 4096,
+                manual: true,
+                signaled: true,
+            },
+            3,
+        ),
+        yes(
+            Call::AdoptMutex {
+                key: 8192,
+                owned: true,
+                owner: 1,
+            },
+            u64::MAX,
+        ),
+        yes(wait(&[1, 4096, 2, TIMER], true), 4),
+        yes(
+            Call::Wait {
+                list: vec![2, TIMER],
+                all: false,
+                timed: true,
+                deadline: 0,
+                irql: 0,
+            },
+            5,
+        ),
+    ]
 }

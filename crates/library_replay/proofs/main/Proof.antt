@@ -5,16 +5,16 @@ use Rattle.library_replay.proofs.main.Statement.{statement}
 use Rattle.library_replay.proofs.main.Tie as tie
 
 abbrev Inv-loop : tie.InvT-loop
-Inv-loop w₀ waiting₀ bytes₀ out₀ numbers₀ keys₀ shown₀ line₀ at₀ turns₀ w waiting bytes out numbers keys shown line at turns = (length w ≡ 303360) × (length waiting ≡ 256) × (length bytes ≡ 64) × (length out ≡ 24) × (length numbers ≡ 160) × (length keys ≡ 16) × (length shown ≡ 20160) × (length line ≡ 4096)
+Inv-loop w₀ kept₀ line₀ at₀ turns₀ w kept line at turns = (length w ≡ 303360) × (length kept ≡ 20184) × (length line ≡ 4096)
 
 abbrev μ-loop : tie.MeasureT-loop
-μ-loop w₀ waiting₀ bytes₀ out₀ numbers₀ keys₀ shown₀ line₀ at₀ turns₀ w waiting bytes out numbers keys shown line at turns = turns
+μ-loop w₀ kept₀ line₀ at₀ turns₀ w kept line at turns = turns
 
 start-requires : tie.Need-start-requires Inv-loop μ-loop
 start-requires c κs = search needs
 
 loop-holds : tie.Need-loop-holds Inv-loop μ-loop
-loop-holds c = (search needs, search needs, search needs, search needs, search needs, search needs, search needs, search needs)
+loop-holds c = (search needs, search needs, search needs)
 
 slice-aggregate-read : tie.Need-slice-aggregate-read Inv-loop μ-loop
 slice-aggregate-read c = search needs
@@ -40,23 +40,8 @@ slice-aggregate-take-3 c = search needs
 slice-aggregate-take-4 : tie.Need-slice-aggregate-take-4 Inv-loop μ-loop
 slice-aggregate-take-4 c = search needs
 
-slice-aggregate-take-5 : tie.Need-slice-aggregate-take-5 Inv-loop μ-loop
-slice-aggregate-take-5 c = search needs
-
-slice-aggregate-take-6 : tie.Need-slice-aggregate-take-6 Inv-loop μ-loop
-slice-aggregate-take-6 c = search needs
-
-slice-aggregate-take-7 : tie.Need-slice-aggregate-take-7 Inv-loop μ-loop
-slice-aggregate-take-7 c = search needs
-
-slice-aggregate-take-8 : tie.Need-slice-aggregate-take-8 Inv-loop μ-loop
-slice-aggregate-take-8 c = search needs
-
 array-share-prefix-chunk : tie.Need-array-share-prefix-chunk Inv-loop μ-loop
 array-share-prefix-chunk c = search needs
-
-slice-aggregate-take-9 : tie.Need-slice-aggregate-take-9 Inv-loop μ-loop
-slice-aggregate-take-9 c = search needs
 
 take-requires : tie.Need-take-requires Inv-loop μ-loop
 take-requires c κs = search needs
@@ -68,7 +53,7 @@ loop-less : tie.Need-loop-less Inv-loop μ-loop
 loop-less c = search needs
 
 loop-again : tie.Need-loop-again Inv-loop μ-loop
-loop-again c = (search needs, search needs, search needs, search needs, search needs, search needs, search needs, search needs)
+loop-again c = (search needs, search needs, search needs)
 
 returns : tie.Need-returns Inv-loop μ-loop
 returns c = search needs
@@ -91,13 +76,8 @@ main-spec =
     slice-aggregate-take
     slice-aggregate-take-2
     slice-aggregate-take-3
-    slice-aggregate-take-4
-    slice-aggregate-take-5
-    slice-aggregate-take-6
-    slice-aggregate-take-7
-    slice-aggregate-take-8
     array-share-prefix-chunk
-    slice-aggregate-take-9
+    slice-aggregate-take-4
     take-requires
     sub-turns
     loop-less

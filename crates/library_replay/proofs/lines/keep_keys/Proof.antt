@@ -6,10 +6,13 @@ use Rattle.library_replay.proofs.lines.keep_keys.Statement.{statement}
 use Rattle.library_replay.proofs.lines.keep_keys.Tie as tie
 
 abbrev Inv-loop : tie.InvT-loop
-Inv-loop numbers keys₀ i₀ keys i = (i ≤ 16) × (length keys ≡ length keys₀)
+Inv-loop numbers kept₀ i₀ kept i = (i ≤ 16) × (length kept ≡ length kept₀)
 
 abbrev μ-loop : tie.MeasureT-loop
-μ-loop numbers keys₀ i₀ keys i = 16 - i
+μ-loop numbers kept₀ i₀ kept i = 16 - i
+
+forget-requires : tie.Need-forget-requires Inv-loop μ-loop
+forget-requires c κs = search needs
 
 loop-holds : tie.Need-loop-holds Inv-loop μ-loop
 loop-holds c = search needs
@@ -17,8 +20,8 @@ loop-holds c = search needs
 get-requires : tie.Need-get-requires Inv-loop μ-loop
 get-requires c κs = search needs
 
-put-requires : tie.Need-put-requires Inv-loop μ-loop
-put-requires c κs = search needs
+put-in-requires : tie.Need-put-in-requires Inv-loop μ-loop
+put-in-requires c κs = search needs
 
 add-i : tie.Need-add-i Inv-loop μ-loop
 add-i c = search needs
@@ -41,9 +44,10 @@ keep-keys-spec =
     (tie.spec
     Inv-loop
     μ-loop
+    forget-requires
     loop-holds
     get-requires
-    put-requires
+    put-in-requires
     add-i
     loop-less
     loop-again

@@ -7,13 +7,13 @@ use Rattle.library_replay.proofs.lines.take.Statement.{statement}
 use Rattle.library_replay.proofs.lines.take.Tie as tie
 
 abbrev Inv-loop : tie.InvT-loop
-Inv-loop w₀ waiting₀ bytes₀ out₀ numbers₀ keys₀ shown₀ line₀ chunk at₀ i₀ w waiting bytes out numbers keys shown line at i = (i ≤ length chunk) × (length w ≡ length w₀) × (length waiting ≡ length waiting₀) × (length bytes ≡ length bytes₀) × (length out ≡ length out₀) × (length numbers ≡ length numbers₀) × (length keys ≡ length keys₀) × (length shown ≡ length shown₀) × (length line ≡ length line₀)
+Inv-loop w₀ kept₀ line₀ chunk at₀ i₀ w kept line at i = (i ≤ length chunk) × (length w ≡ length w₀) × (length kept ≡ length kept₀) × (length line ≡ length line₀)
 
 abbrev μ-loop : tie.MeasureT-loop
-μ-loop w₀ waiting₀ bytes₀ out₀ numbers₀ keys₀ shown₀ line₀ chunk at₀ i₀ w waiting bytes out numbers keys shown line at i = length chunk - i
+μ-loop w₀ kept₀ line₀ chunk at₀ i₀ w kept line at i = length chunk - i
 
 loop-holds : tie.Need-loop-holds Inv-loop μ-loop
-loop-holds c = (search needs, search needs, search needs, search needs, search needs, search needs, search needs, search needs, search needs)
+loop-holds c = (search needs, search needs, search needs, search needs)
 
 shared-slice-read-byte : tie.Need-shared-slice-read-byte Inv-loop μ-loop
 shared-slice-read-byte c = search needs
@@ -22,13 +22,13 @@ byte-requires : tie.Need-byte-requires Inv-loop μ-loop
 byte-requires c κs = search needs
 
 add-i : tie.Need-add-i Inv-loop μ-loop
-add-i c = omega (arith, c .before .before .before .before .before .before .before .before .before .before .before .before .before .before .before .before .before .before .before .before .before .before .before .before .before .before .loop-test .taken, c .before .before .before .before .before .before .before .before .before .before .before .before .before .before .before .before .before .before .before .before .before .before .before .before .before .before .before .loop .inv .0, c .before .before .before .before .before .before .before .before .before .before .before .before .before .before .before .before .before .before .before .before .before .before .before .before .before .before .before .before .before .before .before .before .before .before .before .before .before .good .1 .1 .1 .1 .1 .1 .1 .1 .0)
+add-i c = omega (arith, c .before .before .before .before .before .before .before .before .before .before .before .loop-test .taken, c .before .before .before .before .before .before .before .before .before .before .before .before .loop .inv .0, c .before .before .before .before .before .before .before .before .before .before .before .before .before .before .before .before .before .good .1 .1 .1 .0)
 
 loop-less : tie.Need-loop-less Inv-loop μ-loop
 loop-less c = search needs
 
 loop-again : tie.Need-loop-again Inv-loop μ-loop
-loop-again c = (search needs, search needs, search needs, search needs, search needs, search needs, search needs, search needs, search needs)
+loop-again c = (search needs, search needs, search needs, search needs)
 
 same-length : tie.Need-same-length Inv-loop μ-loop
 same-length c = search needs
@@ -38,21 +38,6 @@ same-length-2 c = search needs
 
 same-length-3 : tie.Need-same-length-3 Inv-loop μ-loop
 same-length-3 c = search needs
-
-same-length-4 : tie.Need-same-length-4 Inv-loop μ-loop
-same-length-4 c = search needs
-
-same-length-5 : tie.Need-same-length-5 Inv-loop μ-loop
-same-length-5 c = search needs
-
-same-length-6 : tie.Need-same-length-6 Inv-loop μ-loop
-same-length-6 c = search needs
-
-same-length-7 : tie.Need-same-length-7 Inv-loop μ-loop
-same-length-7 c = search needs
-
-same-length-8 : tie.Need-same-length-8 Inv-loop μ-loop
-same-length-8 c = search needs
 
 returns : tie.Need-returns Inv-loop μ-loop
 returns c = search needs
@@ -72,9 +57,4 @@ take-spec =
     same-length
     same-length-2
     same-length-3
-    same-length-4
-    same-length-5
-    same-length-6
-    same-length-7
-    same-length-8
     returns)

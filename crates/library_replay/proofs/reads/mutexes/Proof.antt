@@ -7,19 +7,16 @@ use Rattle.library_replay.proofs.reads.mutexes.Tie as tie
 use Rattle.library_replay.proofs.reads.mutexes.Reads as reads
 
 abbrev Inv-loop : tie.InvT-loop
-Inv-loop w keys count shown₀ out₀ i₀ shown out i = (length shown ≡ length shown₀) × (length out ≡ length out₀)
+Inv-loop w count kept₀ i₀ kept i = length kept ≡ length kept₀
 
 abbrev μ-loop : tie.MeasureT-loop
-μ-loop w keys count shown₀ out₀ i₀ shown out i = count - i
+μ-loop w count kept₀ i₀ kept i = count - i
 
 loop-holds : tie.Need-loop-holds Inv-loop μ-loop
 loop-holds c = search needs
 
-get-requires : tie.Need-get-requires Inv-loop μ-loop
-get-requires c κs = search needs
-
-mutex-at-requires : tie.Need-mutex-at-requires Inv-loop μ-loop
-mutex-at-requires c κs = search needs
+mutex-requires : tie.Need-mutex-requires Inv-loop μ-loop
+mutex-requires c κs = search needs
 
 add-i : tie.Need-add-i Inv-loop μ-loop
 add-i c = search needs
@@ -33,9 +30,6 @@ loop-again c = search needs
 same-length : tie.Need-same-length Inv-loop μ-loop
 same-length c = search needs
 
-same-length-2 : tie.Need-same-length-2 Inv-loop μ-loop
-same-length-2 c = search needs
-
 returns : tie.Need-returns Inv-loop μ-loop
 returns c = search needs
 
@@ -46,11 +40,9 @@ mutexes-spec =
     Inv-loop
     μ-loop
     loop-holds
-    get-requires
-    mutex-at-requires
+    mutex-requires
     add-i
     loop-less
     loop-again
     same-length
-    same-length-2
     returns)

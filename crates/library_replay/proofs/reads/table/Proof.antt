@@ -7,10 +7,10 @@ use Rattle.library_replay.proofs.reads.table.Tie as tie
 use Rattle.library_replay.proofs.reads.table.Reads as reads
 
 abbrev Inv-loop : tie.InvT-loop
-Inv-loop first most name w shown₀ out₀ i₀ shown out i = (length shown ≡ length shown₀) × (length out ≡ length out₀)
+Inv-loop first most name w kept₀ i₀ kept i = length kept ≡ length kept₀
 
 abbrev μ-loop : tie.MeasureT-loop
-μ-loop first most name w shown₀ out₀ i₀ shown out i = most - i
+μ-loop first most name w kept₀ i₀ kept i = most - i
 
 loop-holds : tie.Need-loop-holds Inv-loop μ-loop
 loop-holds c = search needs
@@ -20,9 +20,6 @@ shows-requires c κs = search needs
 
 same-length : tie.Need-same-length Inv-loop μ-loop
 same-length c = search needs
-
-same-length-2 : tie.Need-same-length-2 Inv-loop μ-loop
-same-length-2 c = search needs
 
 returns : tie.Need-returns Inv-loop μ-loop
 returns c = search needs
@@ -36,11 +33,8 @@ loop-less c = search needs
 loop-again : tie.Need-loop-again Inv-loop μ-loop
 loop-again c = search needs
 
-same-length-3 : tie.Need-same-length-3 Inv-loop μ-loop
-same-length-3 c = search needs
-
-same-length-4 : tie.Need-same-length-4 Inv-loop μ-loop
-same-length-4 c = search needs
+same-length-2 : tie.Need-same-length-2 Inv-loop μ-loop
+same-length-2 c = search needs
 
 returns-2 : tie.Need-returns-2 Inv-loop μ-loop
 returns-2 c = search needs
@@ -54,11 +48,9 @@ table-spec =
     loop-holds
     shows-requires
     same-length
-    same-length-2
     returns
     add-i
     loop-less
     loop-again
-    same-length-3
-    same-length-4
+    same-length-2
     returns-2)

@@ -6,10 +6,10 @@ use Rattle.library_replay.proofs.show.forget.Statement.{statement}
 use Rattle.library_replay.proofs.show.forget.Tie as tie
 
 abbrev Inv-loop : tie.InvT-loop
-Inv-loop shown₀ i₀ shown i = (i ≤ length shown₀) × (length shown ≡ length shown₀)
+Inv-loop kept₀ i₀ kept i = (i ≤ length kept₀) × (length kept ≡ length kept₀)
 
 abbrev μ-loop : tie.MeasureT-loop
-μ-loop shown₀ i₀ shown i = length shown₀ - i
+μ-loop kept₀ i₀ kept i = length kept₀ - i
 
 loop-holds : tie.Need-loop-holds Inv-loop μ-loop
 loop-holds c = search needs

@@ -6,10 +6,10 @@ use Rattle.library_replay.proofs.show.keep.Statement.{statement}
 use Rattle.library_replay.proofs.show.keep.Tie as tie
 
 abbrev Inv-loop : tie.InvT-loop
-Inv-loop shown₀ at out i₀ shown i = (i ≤ 24) × (length shown ≡ length shown₀)
+Inv-loop kept₀ at out i₀ kept i = (i ≤ 24) × (length kept ≡ length kept₀)
 
 abbrev μ-loop : tie.MeasureT-loop
-μ-loop shown₀ at out i₀ shown i = 24 - i
+μ-loop kept₀ at out i₀ kept i = 24 - i
 
 loop-holds : tie.Need-loop-holds Inv-loop μ-loop
 loop-holds c = search needs

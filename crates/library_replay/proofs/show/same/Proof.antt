@@ -4,10 +4,10 @@ use Rattle.library_replay.proofs.show.same.Statement.{statement}
 use Rattle.library_replay.proofs.show.same.Tie as tie
 
 abbrev Inv-loop : tie.InvT-loop
-Inv-loop shown at out i₀ i = i ≤ 24
+Inv-loop kept at out i₀ i = i ≤ 24
 
 abbrev μ-loop : tie.MeasureT-loop
-μ-loop shown at out i₀ i = 24 - i
+μ-loop kept at out i₀ i = 24 - i
 
 loop-holds : tie.Need-loop-holds Inv-loop μ-loop
 loop-holds c = search needs
