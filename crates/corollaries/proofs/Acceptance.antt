@@ -10,22 +10,22 @@ use Rattle.images.specs.declared.Timer.{Timer}
 use Rattle.images.specs.declared.Dpc.{Dpc}
 use Rattle.images.specs.declared.DpcWork.{DpcWork}
 use Rattle.images.specs.declared.DpcPhase.the-variants.{Queued}
-use Rattle.calls.specs.Run.{answered}
+use Rattle.calls.specs.Run.{answered, left}
 use Rattle.model.specs.Lists.{Mem}
-use Rattle.model.specs.Answer.{Answer, WorkIs}
-use Rattle.model.specs.Call.{Call, StartDpc}
+use Rattle.model.specs.Answer.{Answer, Flag, WorkIs}
+use Rattle.model.specs.Call.{Call, InsertQueueDpc, StartDpc}
 use Rattle.model.specs.Call as call
 use Rattle.model.specs.Start.{Start, Accepted, begun}
 use Rattle.model.specs.Fits.{Fits}
 use Rattle.model.proofs.ListLaws.{append-mem-left, append-mem-right}
-use Rattle.model.specs.Acceptance.{HasWork, OwnWork, NoRestart, Given}
+use Rattle.model.specs.Acceptance.{HasWork, FromInsert, OwnWork, QueuedLast, NoRestart, Given}
 use Rattle.model.proofs.Asking.{same-accepts}
 use Rattle.model.proofs.AcceptanceLaws.{askedAfter}
 use Rattle.model.proofs.AcceptanceLaws as log
 use Rattle.theorem.specs.History.{Proper}
 use Rattle.theorem.specs.Theorem.{logged, end}
 use Rattle.corollaries.specs.Reads.{TimerRead, DpcRead}
-use Rattle.corollaries.proofs.Next.{next, valid}
+use Rattle.corollaries.proofs.Next.{next, next-but-one, valid}
 
 -- the first calls of a proper list are proper
 proper-first : (m : ℕ) (cs first rest : List Call) → cs ≡ first ++ rest → Proper m cs → Proper m first
@@ -76,6 +76,25 @@ module _ (w : List ℕ) (start : Start) (calls : List Call) (accepted : Accepted
   -- the work that `start_dpc` answers
   pub start-given : (a : ℕ) (k : DpcWork) → Fits (StartDpc a) → answered words (StartDpc a) ≡ WorkIs k → Given answeredAfter calls a k
   start-given a k fit e = told a k (log.start-given (length w) start accepted calls a k (sym (next w start calls accepted proper (StartDpc a) fit tt .answers) ∙ e))
+
+  -- an insert that answers yes leaves the DPC queued with the caller's arguments, under the last number
+  pub insert-queues : (a first second : ℕ) → Fits (InsertQueueDpc a first second) → answered words (InsertQueueDpc a first second) ≡ Flag true
+      → (k : DpcWork) × (FromInsert (answered words) (InsertQueueDpc a first second) a k) × QueuedLast (answered (left words (InsertQueueDpc a first second))) a k
+  insert-queues a first second fit e =
+      let c = InsertQueueDpc a first second in
+      let r = log.insert-queues (logged w start calls) (valid w start calls accepted proper) a first second (sym (next w start calls accepted proper c fit tt .answers) ∙ e) in
+      let q = r .2 in (
+        r .0,
+        record { inserts = r .1 .inserts; accepted = e; origin = r .1 .origin },
+        record {
+          dpc = q .dpc;
+          read = next-but-one w start calls accepted proper c (call.Reads (call.DpcAt a)) fit tt tt tt .answers ∙ q .read;
+          queued = q .queued;
+          counters = q .counters;
+          counted = next-but-one w start calls accepted proper c (call.Reads call.DpcCounters) fit tt tt tt .answers ∙ q .counted;
+          last = q .last;
+        },
+      )
 
   -- queued work of an inserted timer's DPC is the timer's own, so an expiry that finds work queued finds its own
   pub own-queued : (a : ℕ) (t : Timer) (x : Dpc) (k : DpcWork) → TimerRead words a t → t .inserted ≡ true → (t .dpc ≡ 0 → ⊥) → DpcRead words (t .dpc) x → x .phase ≡ Queued k → OwnWork t k

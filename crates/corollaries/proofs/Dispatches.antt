@@ -11,19 +11,20 @@ use Rattle.calls.specs.Run.{answered, left}
 use Rattle.model.specs.Lists.{Mem, isEmpty}
 use Rattle.model.specs.State.{State, Thread, ready, running}
 use Rattle.model.specs.Threads as threads
-use Rattle.model.specs.Threads.{becomes, ran, threadOf, withStatus, isReady}
+use Rattle.model.specs.Threads.{becomes, ran, threadOf, isReady}
 use Rattle.model.specs.Choice.{Right}
 use Rattle.model.specs.Refusal.{dispatchRefusal}
-use Rattle.model.specs.Answer.{Outcome, Run, None, ThreadIs}
+use Rattle.model.specs.Answer.{Outcome, Run, None}
 use Rattle.model.specs.Call.{Call, Dispatch}
 use Rattle.model.specs.Call as call
 use Rattle.model.specs.Step.{step, refusal}
 use Rattle.model.specs.Start.{Start, Accepted}
 use Rattle.model.proofs.ListLaws.{member-mem}
-use Rattle.model.proofs.ThreadLaws.{length-change, change-own, stands-somewhere}
+use Rattle.model.proofs.ThreadLaws.{stands-somewhere}
 use Rattle.model.proofs.SoundLaws.{is-thread}
 use Rattle.model.proofs.RowLaws.{passes}
 use Rattle.model.proofs.ChoiceLaws.{right-next}
+use Rattle.model.proofs.PutLaws.{thread-put}
 use Rattle.model.proofs.Told.{thread-told, told-thread, current-none-told, told-current}
 use Rattle.theorem.specs.History.{Proper}
 use Rattle.theorem.specs.Theorem.{logged, end}
@@ -31,8 +32,9 @@ use Rattle.theorem.proofs.Runs.{runs-next}
 use Rattle.corollaries.specs.Reads.{ThreadRead}
 use Rattle.corollaries.specs.Refusals.{isRefused}
 use Rattle.corollaries.specs.Dispatches.{MadeCurrent}
-use Rattle.corollaries.proofs.Next.{next, next-but-one, valid}
+use Rattle.corollaries.proofs.Next.{next, valid}
 use Rattle.corollaries.proofs.Refusals.{passed-by}
+use Rattle.corollaries.proofs.LeavingReads.{tells, tells-after, all-objects-read, all-dpcs-read, thread-left}
 
 some-in : (l : List ℕ) (j : ℕ) → Mem j l → isEmpty l ≡ false
 some-in [] j m = absurd m
@@ -67,7 +69,9 @@ module _ (w : List ℕ) (start : Start) (calls : List Call) (accepted : Accepted
       let z = runs-next log n h (current-none-told log (sym (reads call.Current) ∙ none)) some in
       let s₁ = step (Dispatch n) log .state in
       let b = stands-somewhere (d₀ .threads) i isReady refl (ap isReady (r .is-ready)) in
-      let x = withStatus (threadOf d₀ i) running in (
+      let x : Thread = record { priority = threadOf d₀ i .priority; status = running; result = threadOf d₀ i .result } in
+      let before = tells w start calls accepted proper in
+      let after = tells-after w start calls accepted proper (Dispatch n) tt tt in (
         i,
         next w start calls accepted proper (Dispatch n) tt tt .answers ∙ ap (λ (o : Outcome). o .answer) z,
         record {
@@ -75,13 +79,10 @@ module _ (w : List ℕ) (start : Start) (calls : List Call) (accepted : Accepted
           read = reads (call.Thread i) ∙ told-thread log i (is-thread d₀ i (b .0) (b .1));
           was = r .is-ready;
           highest = λ k u f g. subst (λ (v : Thread). v .priority ≤ threadOf d₀ i .priority) (thread-told log k u (sym (reads (call.Thread k)) ∙ f) .1) (r .highest k (ready-placed k u f g));
-          current = after n call.Current ∙ told-current s₁ i (ap (λ (o : Outcome). o .state .dispatcher .current) z) (λ a. omega (arith, b .0));
-          runs = after n (call.Thread i)
-              ∙ told-thread s₁ i (is-thread (s₁ .dispatcher) i (b .0) (subst (λ (o : Outcome). i ≤ length (o .state .dispatcher .threads)) (sym z) (subst (λ (k : ℕ). i ≤ k) (sym (length-change (d₀ .threads) i x)) (b .1))))
-              ∙ ap (ThreadIs i) (ap (λ (o : Outcome). threadOf (o .state .dispatcher) i) z ∙ change-own (d₀ .threads) i x (b .0) (b .1));
+          current = after call.Current ∙ told-current s₁ i (ap (λ (o : Outcome). o .state .dispatcher .current) z) (λ a. omega (arith, b .0));
+          runs = thread-left words (left words (Dispatch n)) log s₁ before after i x (thread-put log s₁ i x (is-thread d₀ i (b .0) (b .1)) (ap (λ (o : Outcome). o .state .dispatcher .threads) z));
+          objects = all-objects-read words (left words (Dispatch n)) log s₁ before after (ap (λ (o : Outcome). o .state .dispatcher .objects) z);
+          dpcs = all-dpcs-read words (left words (Dispatch n)) log s₁ before after (ap (λ (o : Outcome). o .state .dpcs) z);
         },
         r,
       )
-    where
-      after : (n : ℕ) (r : call.Read) → answered (left words (Dispatch n)) (call.Reads r) ≡ step (call.Reads r) (step (Dispatch n) log .state) .answer
-      after n r = next-but-one w start calls accepted proper (Dispatch n) (call.Reads r) tt tt tt tt .answers

@@ -11,9 +11,11 @@ use lib.ListN.{length, getD}
 use Rattle.arch.specs.declared.Architecture.{Architecture}
 use Rattle.images.specs.declared.TimerBacking.{TimerBacking}
 use Rattle.images.specs.declared.Timer.{Timer}
+use Rattle.images.specs.declared.Dpc.{Dpc}
+use Rattle.images.specs.declared.DpcWork.{DpcWork}
 use Rattle.words.specs.Layout as at
 use Rattle.calls.specs.Run.{answered, left, Lent}
-use Rattle.model.specs.State.{State, Event, Object, event, timer, cpu0Dispatch}
+use Rattle.model.specs.State.{State, Event, Object, event, timer, unselected, cpu0Dispatch}
 use Rattle.model.specs.Waits.{asMutex, asEvent, asTimer, timerAt}
 use Rattle.model.specs.Answer.{None, ThreadNumber, Flag, Number}
 use Rattle.model.specs.Call.{Call, InitializeMutex, InitializeEvent, AdoptMutex, ResetEvent, RetireEventBacking, InitializeTimer, InitializeDpc, SetTimer, SetTimerSigned, CancelTimer, RetireTimerBacking, ConfigureDpcDispatch}
@@ -22,17 +24,20 @@ use Rattle.model.specs.Reads.{numberOrNone}
 use Rattle.model.specs.Step.{step, refusal}
 use Rattle.model.specs.Start.{Start, Accepted}
 use Rattle.model.specs.Fits.{Fits}
-use Rattle.model.specs.Leaving.{setWith, takenOut, freshTimer, freshDpc, keptOwner, Leaves}
+use Rattle.model.specs.Leaving as leaving
+use Rattle.model.specs.Leaving.{setWith, takenOut, freshTimer, freshDpc, oneMoreRemoved, keptOwner, Leaves, OwnQueued, CancelsWork}
 use Rattle.model.proofs.ObjectsLeft as log-leaves
+use Rattle.model.proofs.CancelLaws.{cancels-work}
 use Rattle.model.proofs.Retired as log-retired
 use Rattle.theorem.specs.History.{Proper}
 use Rattle.theorem.specs.Theorem.{logged, end}
 use Rattle.corollaries.specs.Reads.{EventRead, TimerRead}
 use Rattle.corollaries.specs.Refusals.{isRefused}
-use Rattle.corollaries.specs.Leaving.{OtherwiseRead, EventLeft, TimerLeft, OwnerLeft, ownerAnswer, TimerCancelled, DpcLeft, PolicyLeft, TimersGone, EventsGone}
+use Rattle.corollaries.specs.Leaving as reading
+use Rattle.corollaries.specs.Leaving.{OtherwiseRead, EventLeft, TimerLeft, OwnerLeft, ownerAnswer, OwnQueuedRead, WorkRead, TimerCancelled, DpcLeft, PolicyLeft, TimersGone, EventsGone}
 use Rattle.corollaries.proofs.Next.{agree, next, valid}
 use Rattle.corollaries.proofs.Refusals.{passed-by}
-use Rattle.corollaries.proofs.LeavingReads.{Tells, tells, tells-after, event-read, no-event-read, read-event, owner-read, timer-read, no-timer-read, read-timer, dpc-read, no-dpc-read, read-dpc, policy-read, timers-made-read, read-timers-made, dpcs-made-read, read-dpcs-made, same-event, same-owner, same-timer, same-dpc, same-queue, same-counters, same-policy, threads-read, objects-read, dpcs-read, all-objects-read, all-dpcs-read}
+use Rattle.corollaries.proofs.LeavingReads.{Tells, tells, tells-after, event-read, no-event-read, read-event, owner-read, timer-read, no-timer-read, read-timer, dpc-read, no-dpc-read, read-dpc, policy-read, read-policy, counters-read, read-counters, timers-made-read, read-timers-made, dpcs-made-read, read-dpcs-made, same-event, same-owner, same-timer, same-dpc, same-queue, same-counters, same-policy, threads-read, objects-read, dpcs-read, all-objects-read, all-dpcs-read}
 
 module _ (w : List ℕ) (start : Start) (calls : List Call) (accepted : Accepted (length w) start) (proper : Proper (length w) calls) where
   abbrev words : List ℕ
@@ -154,9 +159,9 @@ module _ (w : List ℕ) (start : Start) (calls : List Call) (accepted : Accepted
               (subst (λ (now : ℕ). Leaves log (step c log .state) address (timer (setWith x (now + suc n) false period dpc))) (sym (agree w start calls accepted proper .numbers at.now _ refl)) (r .1)),
         )
 
-    -- a cancel answers whether it was inserted, and leaves it not inserted
+    -- a cancel answers whether it was inserted, leaves it not inserted, and removes the work that it has queued, under a policy, and no other
     pub cancel-leaves : Fits (CancelTimer address) → isRefused (answered words (CancelTimer address)) ≡ false
-        → (answered words (CancelTimer address) ≡ Flag (x .inserted)) × TimerCancelled words (left words (CancelTimer address)) address (takenOut x)
+        → (answered words (CancelTimer address) ≡ Flag (x .inserted)) × TimerCancelled words (left words (CancelTimer address)) address x (takenOut x)
     cancel-leaves fit ok =
         let c = CancelTimer address in
         let r = log-leaves.cancel-leaves log address x (passed c fit tt ok) was in (
@@ -165,8 +170,43 @@ module _ (w : List ℕ) (start : Start) (calls : List Call) (accepted : Accepted
             timer = timer-read (left words c) (step c log .state) (after c fit tt) address _ (ap asTimer (r .1 .own));
             threads = threads-read words (left words c) log (step c log .state) before (after c fit tt) (r .1 .threads);
             objects = objects-read words (left words c) log (step c log .state) before (after c fit tt) (r .1 .others);
+            work = work (cancels-work log address x (passed c fit tt ok) was);
           },
         )
+      where
+        s′ : State
+        s′ = step (CancelTimer address) log .state
+
+        words′ : List ℕ
+        words′ = left words (CancelTimer address)
+
+        queued : (d : Dpc) (k : DpcWork) → OwnQueued log x d k → OwnQueuedRead words x d k
+        queued d k o = record {
+          inserted = o .inserted;
+          policy = λ e. o .policy (read-policy words log before unselected e);
+          some-dpc = o .some-dpc;
+          dpc = dpc-read words log before (x .dpc) d (o .found);
+          queued = o .queued;
+          own = o .own;
+        }
+
+        read-queued : (d : Dpc) (k : DpcWork) → OwnQueuedRead words x d k → OwnQueued log x d k
+        read-queued d k o = record {
+          inserted = o .inserted;
+          policy = λ e. o .policy (policy-read words log before unselected e);
+          some-dpc = o .some-dpc;
+          found = read-dpc words log before (x .dpc) d (o .dpc);
+          queued = o .queued;
+          own = o .own;
+        }
+
+        work : CancelsWork log s′ x → WorkRead words words′ x
+        work (leaving.removes d k o m) = reading.removes d k (queued d k o) (record {
+          dpc = dpc-read words′ s′ (after (CancelTimer address) fit tt) (d .address) _ (m .own);
+          others = λ a n. same-dpc words words′ log s′ before (after (CancelTimer address) fit tt) a (m .others a n);
+          counters = λ c e. counters-read words′ s′ (after (CancelTimer address) fit tt) _ (m .counters ∙ ap oneMoreRemoved (read-counters words log before c e));
+        })
+        work (leaving.leaves n e) = reading.leaves (λ d k o. n d k (read-queued d k o)) (all-dpcs-read words words′ log s′ before (after (CancelTimer address) fit tt) e)
 
   -- a new timer is neither signaled nor inserted, never set, and bears the number of its initialization
   pub initialize-timer-leaves : (address : ℕ) (a : Architecture) (b : TimerBacking) (manual : Bool) (n : ℕ) → answered words (call.Reads call.TimerInitializations) ≡ Number n

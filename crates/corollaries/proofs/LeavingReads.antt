@@ -9,7 +9,7 @@ use Rattle.images.specs.declared.Dpc.{Dpc}
 use Rattle.calls.specs.Run.{answered, left, Lent}
 use Rattle.model.specs.Lists.{nth, given}
 use Rattle.model.specs.State as state
-use Rattle.model.specs.State.{State, Mutex, Event, Object, Dpcs, Policy}
+use Rattle.model.specs.State.{State, Mutex, Event, Object, Counters, Dpcs, Policy}
 use Rattle.model.specs.Waits.{objectAt, asMutex, asEvent, asTimer, mutexAt, eventAt, timerAt}
 use Rattle.model.specs.Dpcs.{dpcAt}
 use Rattle.model.specs.Answer.{Answer, Refused, None, ThreadNumber, Number, ThreadIs, EventIs, TimerIs, DpcIs, PolicyIs, CountersAre}
@@ -30,6 +30,12 @@ use Rattle.corollaries.proofs.Next.{next, next-but-one}
 
 number-same : (m n : ℕ) → Number m ≡ Number n → m ≡ n
 number-same m n e = cc
+
+policy-same : (p q : Policy) → PolicyIs p ≡ PolicyIs q → p ≡ q
+policy-same p q e = cc
+
+counters-same : (c d : Counters) → CountersAre c ≡ CountersAre d → c ≡ d
+counters-same c d e = cc
 
 -- the words tell the state: every read answers what it answers on it
 abbrev pub Tells : List ℕ → State → Type 0
@@ -86,6 +92,15 @@ module _ (w : List ℕ) (s : State) (t : Tells w s) where
 
   pub policy-read : (p : Policy) → s .policy ≡ p → answered w (call.Reads call.DpcPolicy) ≡ PolicyIs p
   policy-read p e = t call.DpcPolicy ∙ policy-answers s ∙ ap PolicyIs e
+
+  pub read-policy : (p : Policy) → answered w (call.Reads call.DpcPolicy) ≡ PolicyIs p → s .policy ≡ p
+  read-policy p e = policy-same (s .policy) p (sym (t call.DpcPolicy ∙ policy-answers s) ∙ e)
+
+  pub counters-read : (c : Counters) → s .dpcs .counters ≡ c → answered w (call.Reads call.DpcCounters) ≡ CountersAre c
+  counters-read c e = t call.DpcCounters ∙ counters-answers s ∙ ap CountersAre e
+
+  pub read-counters : (c : Counters) → answered w (call.Reads call.DpcCounters) ≡ CountersAre c → s .dpcs .counters ≡ c
+  read-counters c e = counters-same (s .dpcs .counters) c (sym (t call.DpcCounters ∙ counters-answers s) ∙ e)
 
   pub timers-made-read : (n : ℕ) → s .timerInitializations ≡ n → answered w (call.Reads call.TimerInitializations) ≡ Number n
   timers-made-read n e = t call.TimerInitializations ∙ timers-made-answers s ∙ ap Number e

@@ -1,10 +1,11 @@
 -- What a call that is not refused leaves of the threads: one that exits, waits, is woken or times out, is given a priority, is created.
-use Prim.Native.Nat.{ℕ}
+use Prim.Native.Nat.{ℕ, _≤_, _<_}
 use mathlib.Core.List.{List, []}
 use mathlib.Core.Bool.{Bool, false}
 use mathlib.Core.Option.{Option, some}
-use mathlib.Core.Path.{_≡_, sym, ap, _∙_, subst}
-use lib.ListN.{length}
+use mathlib.Core.Path.{_≡_, refl, sym, ap, _∙_, subst}
+use lib.ListN.{length, getD}
+use Rattle.words.specs.Layout as at
 use Rattle.calls.specs.Run.{answered, left, Lent}
 use Rattle.model.specs.State.{State, Thread, WaitResult, satisfied, timeout, Named}
 use Rattle.model.specs.Threads.{threadOf}
@@ -17,7 +18,7 @@ use Rattle.model.specs.Start.{Start, Accepted}
 use Rattle.model.specs.Fits.{Fits}
 use Rattle.model.specs.Valid.{Valid}
 use Rattle.model.specs.Leaving as leaving
-use Rattle.model.specs.Leaving.{givenPriority, OneThread, GoesOn, Ungranted, WaitLeaves, AfterAdvance, AfterWake, ThatEvent, ThatMutex, DueTimer, Exits, Yields}
+use Rattle.model.specs.Leaving.{givenPriority, Names, OneThread, GoesOn, Ungranted, WaitLeaves, AfterAdvance, AfterWake, ThatEvent, ThatMutex, DueTimer, Exits, Yields}
 use Rattle.model.proofs.ThreadsLeft as log-leaves
 use Rattle.model.proofs.ThreadsLeft.{numbered-is}
 use Rattle.theorem.specs.History.{Proper}
@@ -26,7 +27,7 @@ use Rattle.corollaries.specs.Reads.{ThreadRead}
 use Rattle.corollaries.specs.Refusals.{isRefused}
 use Rattle.corollaries.specs.Leaving as read
 use Rattle.corollaries.specs.Leaving.{Same, ThreadBecomes, DueRead, ExitRead, YieldRead, GoesOnRead, UngrantedRead, WaitRead, OneThreadRead, CreateRead}
-use Rattle.corollaries.proofs.Next.{next, valid}
+use Rattle.corollaries.proofs.Next.{agree, next, valid}
 use Rattle.corollaries.proofs.Refusals.{passed-by}
 use Rattle.corollaries.proofs.LeavingReads.{Tells, tells, tells-after, thread-read, no-thread-read, read-thread, current-read, read-current, timer-read, same-current, all-objects-read, all-dpcs-read, thread-left, thread-becomes}
 
@@ -45,6 +46,10 @@ module _ (w : List ℕ) (start : Start) (calls : List Call) (accepted : Accepted
 
   after : (c : Call) → Fits c → Lent (length w) c → Tells (left words c) (step c log .state)
   after = tells-after w start calls accepted proper
+
+  -- the time of the words
+  now-is : getD words at.now 0 ≡ log .now
+  now-is = agree w start calls accepted proper .numbers at.now _ refl
 
   -- ---- the current thread
 
@@ -68,7 +73,7 @@ module _ (w : List ℕ) (start : Start) (calls : List Call) (accepted : Accepted
           others = λ j n. thread-becomes words (left words c) log s′ before (after c fit tt) j (r .others j n);
         }
 
-    -- after a yield it reads as ready, and none is current
+    -- after a yield it reads as ready, none is current, and all else reads as before
     pub yield-leaves : isRefused (answered words YieldCurrent) ≡ false → YieldRead words (left words YieldCurrent) i x
     yield-leaves ok =
         let s′ = step YieldCurrent log .state in
@@ -76,6 +81,8 @@ module _ (w : List ℕ) (start : Start) (calls : List Call) (accepted : Accepted
         record {
           thread = thread-left words (left words YieldCurrent) log s′ before (after YieldCurrent tt tt) i _ (r .thread);
           current = current-read (left words YieldCurrent) s′ (after YieldCurrent tt tt) 0 (r .current);
+          objects = all-objects-read words (left words YieldCurrent) log s′ before (after YieldCurrent tt tt) (r .objects);
+          dpcs = all-dpcs-read words (left words YieldCurrent) log s′ before (after YieldCurrent tt tt) (r .dpcs);
         }
 
     -- ---- waits
@@ -94,9 +101,9 @@ module _ (w : List ℕ) (start : Start) (calls : List Call) (accepted : Accepted
       }
 
       ungranted : (ns : List Named) (all : Bool) (deadline : Option ℕ) → Ungranted log s₁ i x ns all deadline (step c log .answer) → UngrantedRead words words₁ i x ns all deadline (answered words c)
-      ungranted ns all deadline (leaving.times-out e g o) =
-          read.times-out (next w start calls accepted proper c fit lent .answers ∙ e) (goes-on timeout g) (all-objects-read words words₁ log s₁ before (after c fit lent) o)
-      ungranted ns all deadline (leaving.blocks e b) = read.blocks (next w start calls accepted proper c fit lent .answers ∙ e) (record {
+      ungranted ns all deadline (leaving.times-out e end q h g o) =
+          read.times-out (next w start calls accepted proper c fit lent .answers ∙ e) end q (subst (λ (t : ℕ). end ≤ t) (sym now-is) h) (goes-on timeout g) (all-objects-read words words₁ log s₁ before (after c fit lent) o)
+      ungranted ns all deadline (leaving.blocks e h b) = read.blocks (next w start calls accepted proper c fit lent .answers ∙ e) (λ end q. subst (λ (t : ℕ). t < end) (sym now-is) (h end q)) (record {
         sequence = b .sequence;
         thread = thread-left words words₁ log s₁ before (after c fit lent) i _ (b .thread);
         last = λ j z y e q. b .last j y (ap (λ (t : Thread). t .status) (numbered-is log j z (read-thread words log before j z e) .1) ∙ q);
@@ -104,12 +111,12 @@ module _ (w : List ℕ) (start : Start) (calls : List Call) (accepted : Accepted
         untouched = all-objects-read words words₁ log s₁ before (after c fit lent) (b .untouched);
       })
 
-    -- after a wait its result reads as the wait answered; one that blocks reads as waiting for just this list, and none is current
+    -- after a wait its result reads as the wait answered; one that blocks reads as waiting for just the objects that the list names, and none is current
     pub wait-result : (l : List ℕ) (all : Bool) (deadline : Option ℕ) (irql : ℕ) → Fits (Wait l all deadline irql) → isRefused (answered words (Wait l all deadline irql)) ≡ false
-        → WaitRead words (left words (Wait l all deadline irql)) i x (pairs l) all deadline (answered words (Wait l all deadline irql))
+        → (objects : List Named) × (Names l objects) × WaitRead words (left words (Wait l all deadline irql)) i x objects all deadline (answered words (Wait l all deadline irql))
     wait-result l all deadline irql fit ok =
         let c = Wait l all deadline irql in
-        go (here (λ j y. WaitLeaves log (step c log .state) j y (pairs l) all deadline (step c log .answer)) (log-leaves.wait-result log v l all deadline irql (passed-by w start calls accepted proper c fit tt ok)))
+        (pairs l, log-leaves.names-pairs l, go (here (λ j y. WaitLeaves log (step c log .state) j y (pairs l) all deadline (step c log .answer)) (log-leaves.wait-result log v l all deadline irql (passed-by w start calls accepted proper c fit tt ok))))
       where
         go : let c = Wait l all deadline irql in WaitLeaves log (step c log .state) i x (pairs l) all deadline (step c log .answer) → WaitRead words (left words c) i x (pairs l) all deadline (answered words c)
         go (leaving.grants k e g) = read.grants k (next w start calls accepted proper (Wait l all deadline irql) fit tt .answers ∙ e) (goes-on (Wait l all deadline irql) fit tt (satisfied k) g)
@@ -153,6 +160,12 @@ module _ (w : List ℕ) (start : Start) (calls : List Call) (accepted : Accepted
       go (leaving.same q h) = leaving.same q h
       go (leaving.woken u p k g q) = leaving.woken u p k (record { place = g .place; which = g .which; named = g .named; freed = due (g .which) (g .freed); index = g .index }) q
       go (leaving.timed-out u p t h l q) = leaving.timed-out u p t h l q
+
+  -- it sets the time of the words
+  pub advance-time : (time : ℕ) → Fits (AdvanceTo time) → isRefused (answered words (AdvanceTo time)) ≡ false → getD (left words (AdvanceTo time)) at.now 0 ≡ time
+  advance-time time fit ok =
+      let c = AdvanceTo time in
+      next w start calls accepted proper c fit tt .agree .numbers at.now _ refl ∙ log-leaves.advance-time log v time (passed-by w start calls accepted proper c fit tt ok)
 
   -- and the same one is current
   pub advance-current : (time : ℕ) → Fits (AdvanceTo time) → isRefused (answered words (AdvanceTo time)) ≡ false → Same words (left words (AdvanceTo time)) call.Current

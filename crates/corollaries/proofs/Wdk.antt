@@ -11,7 +11,7 @@ use lib.ListN.{length}
 use Rattle.images.specs.declared.Timer.{Timer}
 use Rattle.calls.specs.Run.{answered, left}
 use Rattle.model.specs.Lists.{given}
-use Rattle.model.specs.State.{State}
+use Rattle.model.specs.State.{State, Named}
 use Rattle.model.specs.Waits.{timerAt}
 use Rattle.model.specs.Timers.{most}
 use Rattle.model.specs.Refusal.{pairs, isNegative, signedDue, setSignedRefusal, unknownTimer}
@@ -21,11 +21,13 @@ use Rattle.model.specs.Call as call
 use Rattle.model.specs.Step.{step, refusal, effect}
 use Rattle.model.specs.Start.{Start, Accepted}
 use Rattle.model.specs.Fits.{Fits}
+use Rattle.model.specs.Leaving.{Names}
 use Rattle.model.specs.Wdk.{wasSignaled, inTimerQueue, InsertReports, RemoveReports, WaitReports}
 use Rattle.model.proofs.RowLaws.{passes, known}
 use Rattle.model.proofs.WdkLaws as wdk
 use Rattle.model.proofs.WdkLaws.{step-is}
 use Rattle.model.proofs.TimerLaws as timers
+use Rattle.model.proofs.ThreadsLeft.{names-pairs}
 use Rattle.model.proofs.Told.{timer-told, told-timer}
 use Rattle.theorem.specs.History.{Proper}
 use Rattle.theorem.specs.Theorem.{logged, end}
@@ -129,8 +131,11 @@ module _ (w : List ℕ) (start : Start) (calls : List Call) (accepted : Accepted
 
   -- KeWaitForMultipleObjects: satisfied, timed out or blocked, and what is taken, of every wait
   pub wait : (l : List ℕ) (all : Bool) (deadline : Option ℕ) (irql : ℕ) → Fits (Wait l all deadline irql) → isRefused (answered words (Wait l all deadline irql)) ≡ false
-      → WaitReports log (step (Wait l all deadline irql) log .state) (log .dispatcher .current) (pairs l) all deadline (answered words (Wait l all deadline irql))
+      → (objects : List Named) × (Names l objects) × WaitReports log (step (Wait l all deadline irql) log .state) (log .dispatcher .current) objects all deadline (answered words (Wait l all deadline irql))
   wait l all deadline irql fit e =
-      let c = Wait l all deadline irql in
-      subst (WaitReports log (step c log .state) (log .dispatcher .current) (pairs l) all deadline) (sym (next w start calls accepted proper c fit tt .answers))
-      (wdk.wait-reports log l all deadline irql (passed-by w start calls accepted proper c fit tt e))
+      let c = Wait l all deadline irql in (
+        pairs l,
+        names-pairs l,
+        subst (WaitReports log (step c log .state) (log .dispatcher .current) (pairs l) all deadline) (sym (next w start calls accepted proper c fit tt .answers))
+            (wdk.wait-reports log l all deadline irql (passed-by w start calls accepted proper c fit tt e)),
+      )

@@ -4,7 +4,7 @@ use mathlib.Core.List.{List, [], _∷_, _++_, append-nil, append-assoc}
 use mathlib.Core.Bool.{Bool, true, false, cond}
 use mathlib.Core.Path.{_≡_, refl, sym, ap, _∙_, subst}
 use mathlib.Core.Logic.{_⊎_, inl, inr, ⊎-elim}
-use mathlib.Core.Option.{none, some}
+use mathlib.Core.Option.{Option, none, some}
 use native.Mathlib.Omega.{arith}
 use native.Mathlib.Decide.{ℕ-discrete}
 use borrow.Author.Tests.{eqb-true, eq-eqb, leb-true}
@@ -16,10 +16,10 @@ use Rattle.images.specs.declared.DpcOrigin.{DpcOrigin}
 use Rattle.images.specs.declared.DpcOrigin.the-variants as origin
 use Rattle.images.specs.declared.DpcPhase.{DpcPhase}
 use Rattle.images.specs.declared.DpcPhase.the-variants.{Idle, Queued, Running, Returning}
-use Rattle.model.specs.Lists.{Mem, present}
+use Rattle.model.specs.Lists.{Mem, present, given}
 use Rattle.model.specs.State.{State, timer}
 use Rattle.model.specs.Waits.{keyOf, objectAt, asTimer}
-use Rattle.model.specs.Dpcs.{isFrom, dpcAt, phaseAt, rephased, isQueued, workOf, newWork, accepted, duplicated}
+use Rattle.model.specs.Dpcs.{isFrom, addressOf, dpcAt, phaseAt, inPhase, putDpc, rephased, isQueued, workOf, newWork, accepted, duplicated}
 use Rattle.model.specs.Timers.{isPeriodic, isNamed, originOf, dueTimers, refusalOfEach}
 use Rattle.model.specs.Refusal.{isUnselected, insertInPhase, insertRefusal, unexpired, advanceRefusal}
 use Rattle.model.specs.Answer.{Answer, Outcome, gives, Refused, Done, Flag, TimerIs, DpcIs, WorkIs, PolicyIs}
@@ -29,7 +29,7 @@ use Rattle.model.specs.Step.{refusal, effect, step, after, opened, withD
 use Rattle.model.specs.Start.{Start, byOpen, Accepted, begun}
 use Rattle.model.specs.Valid.{Valid}
 use Rattle.model.proofs.ListLaws.{not-both}
-use Rattle.model.proofs.TableLaws.{some-same, none-some, mem-found}
+use Rattle.model.proofs.TableLaws.{some-same, none-some, found, mem-found, find-put-own}
 use Rattle.model.proofs.DpcLaws.{present-some, phase-found, phase-own, phase-other}
 use Rattle.model.proofs.ObjectLaws.{timer-found}
 use Rattle.model.proofs.ExpiryLaws.{due-pending}
@@ -39,10 +39,10 @@ use Rattle.model.proofs.KeepTimers as timers
 use Rattle.model.proofs.WdkLaws.{step-is}
 use Rattle.model.proofs.StepLaws.{valid-after, refused-unchanged}
 use Rattle.model.proofs.StartLaws.{valid-begun}
-use Rattle.model.specs.Acceptance.{HasWork, Reached, OfTimer, OwnWork, Numbered, Accepts, NoRestart, Given}
+use Rattle.model.specs.Acceptance.{HasWork, FromInsert, Reached, OfTimer, OwnWork, Numbered, Accepts, QueuedLast, NoRestart, Given}
 use Rattle.model.proofs.Firing.{Fired, Fires, all-fire}
 use Rattle.model.proofs.Leaving.{Kind, opens, inserts, advances, leaves, kind}
-use Rattle.model.proofs.Told.{asked, told-timer, timer-told, policy-answers, counters-answers, dpc-told}
+use Rattle.model.proofs.Told.{asked, told-timer, timer-told, policy-answers, counters-answers, dpc-told, told-dpc}
 
 -- ---- one call
 
@@ -73,8 +73,14 @@ of-timer now t k e = record {
     go true q z = eqb-true (t .«period_ms») 0 q
     go false q z = absurd (not-both z)
 
--- work that is from the timer is its own
-from-own : (t : Timer) (k : DpcWork) → isFrom t (k .origin) ≡ true → OwnWork t k
+-- work that is from the timer is its own, and only that
+pub own-from : (t : Timer) (k : DpcWork) → OwnWork t k → isFrom t (k .origin) ≡ true
+own-from t k w = ap (isFrom t) (w .origin)
+    ∙ ap (λ (b : Bool). cond b (cond (eqb (t .«arm_generation») (t .«arm_generation»)) (eqb (t .initialization) (t .initialization)) false) false) (eq-eqb (t .address) (t .address) refl)
+    ∙ ap (λ (b : Bool). cond b (eqb (t .initialization) (t .initialization)) false) (eq-eqb (t .«arm_generation») (t .«arm_generation») refl)
+    ∙ eq-eqb (t .initialization) (t .initialization) refl
+
+pub from-own : (t : Timer) (k : DpcWork) → isFrom t (k .origin) ≡ true → OwnWork t k
 from-own t k h = go (k .origin) refl h
   where
     same : (x y : ℕ) (b : Bool) → cond (eqb x y) b false ≡ true → (x ≡ y) × (b ≡ true)
@@ -165,6 +171,39 @@ module _ (s : State) (v : Valid s) where
             }))
         | no y ↦ inl (ap workOf (sym (phase-other (s .dpcs .table) (v .queueing .rising) x d f (Queued (newWork (s .dpcs) first second origin.Caller)) a y)) ∙ h′)
       ]
+
+  -- an insert that answers yes leaves its own work, with the last number
+  pub insert-queues : (a first second : ℕ) → asked s (InsertQueueDpc a first second) ≡ Flag true
+      → (k : DpcWork) × (FromInsert (asked s) (InsertQueueDpc a first second) a k) × QueuedLast (asked (step (InsertQueueDpc a first second) s .state)) a k
+  unfolding refusal insertRefusal effect dpcInserted accepted
+  insert-queues a first second answer =
+      let r = passed s (InsertQueueDpc a first second) (Flag true) (λ n e. let z : _≡_ {A = ℕ} 0 1 = cc in omega arith) answer in
+      let r₁ = passes (isNamed (s .dispatcher .objects) a) 17 _ r in
+      let r₂ = passes (isUnselected (s .policy)) 19 _ (r₁ .1) in
+      let r₃ = holds (present (dpcAt (s .dpcs .table) a)) 1 (insertInPhase s (phaseAt (s .dpcs .table) a)) (r₂ .1) in
+      let d = present-some (s .dpcs .table) a (r₃ .0) in
+      let k = newWork (s .dpcs) first second origin.Caller in (
+        k,
+        record { inserts = refl; accepted = answer; origin = refl },
+        subst (λ (o : Outcome). QueuedLast (asked (o .state)) a k) (sym (step-is (InsertQueueDpc a first second) s r))
+            (go (isQueued (phaseAt (s .dpcs .table) a)) (sym (ap (λ (o : Outcome). o .answer) (step-is (InsertQueueDpc a first second) s r)) ∙ answer) (d .0) (d .1)),
+      )
+    where
+      go : (b : Bool) → inserted b a first second .answer ≡ Flag true → (d : Dpc) → dpcAt (s .dpcs .table) a ≡ some d
+          → QueuedLast (asked (inserted b a first second .state)) a (newWork (s .dpcs) first second origin.Caller)
+      go true z d f = absurd (not-both (let y : false ≡ true = cc in sym y))
+      go false z d f =
+          let k = newWork (s .dpcs) first second origin.Caller in
+          let s′ = withDpcs s (accepted (s .dpcs) a first second origin.Caller) in
+          record {
+            dpc = inPhase d (Queued k);
+            read = told-dpc s′ a (inPhase d (Queued k)) (ap (λ (o : Option Dpc). dpcAt (given o (s .dpcs .table) (λ x. putDpc (inPhase x (Queued k)) (s .dpcs .table))) a) f
+                ∙ ap (dpcAt (putDpc (inPhase d (Queued k)) (s .dpcs .table))) (sym (found addressOf (s .dpcs .table) a d f .1)) ∙ find-put-own addressOf (inPhase d (Queued k)) (s .dpcs .table));
+            queued = refl;
+            counters = s′ .dpcs .counters;
+            counted = counters-answers s′;
+            last = refl;
+          }
 
   advance-works : (time : ℕ) → refusal (AdvanceTo time) s ≡ 0 → (a : ℕ) (k : DpcWork) → Has (step (AdvanceTo time) s .state) a k
       → (Has s a k) ⊎ Accepts (asked s) (asked (step (AdvanceTo time) s .state)) (AdvanceTo time) a k

@@ -69,14 +69,14 @@ expired-less now t i = go (isPeriodic t)
     go true = record { inserted = λ e. i; address = refl; dpc = refl; arm = refl; initialization = refl }
     go false = record { inserted = λ e. absurd (not-both (sym e)); address = refl; dpc = refl; arm = refl; initialization = refl }
 
--- it stands where it stood, is signaled, and is reset as before
-pub expired-is : (now : ℕ) (t : Timer) → (expired now t .address ≡ t .address) × (expired now t .signaled ≡ true) × (expired now t .«manual_reset» ≡ t .«manual_reset»)
+-- it stands where it stood, and is signaled
+pub expired-is : (now : ℕ) (t : Timer) → (expired now t .address ≡ t .address) × (expired now t .signaled ≡ true)
 unfolding expired
 expired-is now t = go (isPeriodic t)
   where
-    go : (b : Bool) → let u = cond b (retimed t true true (nextDue (t .due) (t .«period_ms») now)) (retimed t true false (t .due)) in (u .address ≡ t .address) × (u .signaled ≡ true) × (u .«manual_reset» ≡ t .«manual_reset»)
-    go true = (refl, refl, refl)
-    go false = (refl, refl, refl)
+    go : (b : Bool) → let u = cond b (retimed t true true (nextDue (t .due) (t .«period_ms») now)) (retimed t true false (t .due)) in (u .address ≡ t .address) × (u .signaled ≡ true)
+    go true = (refl, refl)
+    go false = (refl, refl)
 
 expired-placed : (now : ℕ) (t : Timer) → Placed (timer t) → Placed (timer (expired now t))
 unfolding expired

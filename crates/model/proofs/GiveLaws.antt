@@ -9,12 +9,13 @@ use native.Mathlib.Omega.{arith}
 use native.Mathlib.Decide.{ℕ-discrete}
 use Rattle.images.specs.declared.Timer.{Timer}
 use Rattle.model.specs.Lists.{Mem, Distinct, nth, given}
-use Rattle.model.specs.State.{State, Dispatcher, Thread, Status, running, ready, waiting, exited, Wait, satisfied, Named, Mutex, Event, Object, mutex, event, timer}
+use Rattle.model.specs.State.{State, Dispatcher, Thread, Status, running, ready, waiting, exited, Wait, satisfied, Named, Mutex, Event, Object, mutex, event, timer, Dpcs}
 use Rattle.model.specs.Threads.{count, threadOf, statusOf, hasExited, isWaiting, isReady, waitOf}
 use Rattle.model.specs.Waits.{keyOf, kindOf, objectAt, asMutex, asEvent, asTimer, isFree, isAvailable, takenBy, onEvent, onTimer, signaledAs, withSignal, isMet, canWake, pass}
+use Rattle.model.specs.Dpcs.{dpcAt}
 use Rattle.model.specs.Valid.{Standing, sequenceAt, Quiet}
-use Rattle.model.specs.Answer.{None, Refused, EventIs, TimerIs}
-use Rattle.model.specs.Call.{Call}
+use Rattle.model.specs.Answer.{None, Refused, Number, EventIs, TimerIs, DpcIs, CountersAre}
+use Rattle.model.specs.Call.{Call, AdvanceTo}
 use Rattle.model.specs.Call as call
 use Rattle.model.specs.Reads.{numberOrNone}
 use Rattle.model.specs.Step.{step}
@@ -24,11 +25,12 @@ use Rattle.model.proofs.ThreadLaws.{stands-somewhere}
 use Rattle.model.proofs.SoundLaws.{is-thread}
 use Rattle.model.proofs.ObjectLaws.{core, same-kind, taken-core, on-mutex, on-event, on-timer, event-found, timer-found}
 use Rattle.model.proofs.NumberLaws.{rising-before}
-use Rattle.model.specs.Wakes.{Readings, readingsOf, timerNamed, threadNamed, Woken, WokenBy, Available, Freed, Took, Untaken, TakenFirst, WakePass}
+use Rattle.model.specs.Wakes.{Readings, readingsOf, timerNamed, threadNamed, Woken, WokenBy, Available, Freed, Took, Untaken, TakenFirst, timerWith, Expires, Advances, WakePass}
+use Rattle.model.specs.Wakes as wakes
 use Rattle.model.proofs.TakeLaws.{nameOf, taken-kind}
 use Rattle.model.proofs.PassLaws as at
 use Rattle.model.proofs.PassLaws.{Offered, Had, number-same, available-offered, offered-available, Got, Awake, AllWait, can-wake, Taker, Lost, pass-count, pass-absent, pass-exited, pass-either, pass-falls, got-had, any-place, all-zero, pass-any, pass-all, pass-alone}
-use Rattle.model.proofs.Told.{event-told, told-event, timer-told, told-timer, owner-answers, event-answers, timer-answers, thread-told, told-thread}
+use Rattle.model.proofs.Told.{event-told, told-event, timer-told, told-timer, owner-answers, event-answers, timer-answers, dpc-answers, queue-answers, counters-answers, thread-told, told-thread}
 use Rattle.model.proofs.ReadLaws.{waits-told, told-waits, available-told, told-available, had-told, single-told}
 
 -- what a call does after its pass: it gives and takes no object, and wakes no thread with an index
@@ -42,7 +44,7 @@ pub record Ended (d d′ : Dispatcher) : Type 0 where
 -- the same object but for its owner or signal, or a timer that has expired
 pub data Alike (was now : Object) : Type 0 where
   but-signal : core now ≡ core was → Alike was now
-  but-expiry : (t u : Timer) → was ≡ timer t → now ≡ timer u → u .«manual_reset» ≡ t .«manual_reset» → Alike was now
+  but-expiry : (t u : Timer) → was ≡ timer t → now ≡ timer u → Alike was now
 
 -- an object that the call makes available
 pub record Changed (s : State) (c : Call) (l : List Object) (k : ℕ) : Type 0 where
@@ -53,6 +55,11 @@ pub record Changed (s : State) (c : Call) (l : List Object) (k : ℕ) : Type 0 w
   pub alike : Alike was now
   pub free : isFree now ≡ true
   pub freed : Freed (readingsOf s) c (nameOf was)
+
+-- before its pass a timer that is due has expired
+abbrev pub ExpiresIn : State → Call → List Object → Type 0
+ExpiresIn s c l = (time : ℕ) → c ≡ AdvanceTo time → (k : ℕ) (t : Timer) → objectAt (s .dispatcher .objects) k ≡ some (timer t) → t .inserted ≡ true → t .due ≤ time
+    → (u : Timer) × (objectAt l k ≡ some (timer u)) × Expires time t u
 
 -- before its pass: who waits waits, and what the call makes available is available more
 pub record PassOf (s : State) (c : Call) : Type 0 where
@@ -65,11 +72,13 @@ pub record PassOf (s : State) (c : Call) : Type 0 where
   pub exited : (i : ℕ) → hasExited (statusOf at i) ≡ true → (hasExited (statusOf (s .dispatcher) i) ≡ true) ⊎ Freed (readingsOf s) c (threadNamed i)
   pub objects : (k : ℕ) → (objectAt (at .objects) k ≡ objectAt (s .dispatcher .objects) k) ⊎ Changed s c (at .objects) k
   pub freed : (n : Named) → Freed (readingsOf s) c n → isAvailable at n ≡ true
+  pub expires : ExpiresIn s c (at .objects)
+  pub dpcs : Advances c ⊎ (step c s .state .dpcs ≡ s .dpcs)
   pub ended : Ended (pass at (at .waiters)) (step c s .state .dispatcher)
 
 alike-kind : (was now : Object) → Alike was now → kindOf now ≡ kindOf was
 alike-kind was now (but-signal e) = same-kind now was e
-alike-kind was now (but-expiry t u e f m) = ap kindOf f ∙ sym (ap kindOf e)
+alike-kind was now (but-expiry t u e f) = ap kindOf f ∙ sym (ap kindOf e)
 
 event-core : (e : Event) (x : Object) → core x ≡ core (event e) → (y : Bool) × (x ≡ event (record { key = e .key; manual = e .manual; signaled = y }))
 event-core e (mutex m) h = absurd (omega (arith, same-kind (mutex m) (event e) h))
@@ -297,19 +306,24 @@ module _ (s : State) (quiet : Quiet (s .dispatcher)) (c : Call) (p : PassOf s c)
       changed : (q : Changed s c (d .objects) key) → Alike (q .was) (q .now)
           → (x : Bool) × (b (call.EventState key) ≡ EventIs (record { key = e .key; manual = e .manual; signaled = x }))
       changed q (but-signal h) = reads (q .now) (q .after) (h ∙ ap core (some-same (q .was) (event e) (sym (q .before) ∙ here)))
-      changed q (but-expiry t u g h m) = absurd (omega (arith, ap kindOf (sym (some-same (q .was) (event e) (sym (q .before) ∙ here)) ∙ g)))
+      changed q (but-expiry t u g h) = absurd (omega (arith, ap kindOf (sym (some-same (q .was) (event e) (sym (q .before) ∙ here)) ∙ g)))
 
       by : (objectAt (d .objects) key ≡ objectAt (d₀ .objects) key) ⊎ Changed s c (d .objects) key
           → (x : Bool) × (b (call.EventState key) ≡ EventIs (record { key = e .key; manual = e .manual; signaled = x }))
       by (inl q) = reads (event e) (q ∙ here) refl
       by (inr q) = changed q (q .alike)
 
-  -- the timer after, as it is before the call or by its expiry
+  -- the timer after, but for its signal as it is before the call or by its expiry
   pub record Later (address : ℕ) (t : Timer) : Type 0 where
     pub now : Timer
     pub read : b (call.TimerAt address) ≡ TimerIs now
-    pub mode : now .«manual_reset» ≡ t .«manual_reset»
-    pub signal : (Freed a c (timerNamed address) → ⊥) → now ≡ withSignal t (now .signaled)
+    pub signal : (Freed a c (timerNamed address) → ⊥) → now ≡ timerWith t (now .signaled) (t .inserted) (t .due)
+    pub expires : (time : ℕ) → c ≡ AdvanceTo time → t .inserted ≡ true → t .due ≤ time → Expires time t now
+
+  -- a signal taken after the expiry
+  then-taken : (time : ℕ) (t u v : Timer) → v ≡ withSignal u (v .signaled) → Expires time t u → Expires time t v
+  then-taken time t u v e (wakes.once p q) = wakes.once p (e ∙ ap (λ (x : Timer). withSignal x (v .signaled)) q)
+  then-taken time t u v e (wakes.again n p ahead first q) = wakes.again n p ahead first (e ∙ ap (λ (x : Timer). withSignal x (v .signaled)) q)
 
   end-timer : (address : ℕ) (t : Timer) → a (call.TimerAt address) ≡ TimerIs t → Later address t
   end-timer address t r = by (p .objects address)
@@ -317,27 +331,28 @@ module _ (s : State) (quiet : Quiet (s .dispatcher)) (c : Call) (p : PassOf s c)
       here : objectAt (d₀ .objects) address ≡ some (timer t)
       here = timer-found (objectAt (d₀ .objects) address) t (timer-told s address t r)
 
-      reads : (o : Object) → objectAt (d .objects) address ≡ some o → (v : Timer) → core o ≡ core (timer v) → v .«manual_reset» ≡ t .«manual_reset»
-          → ((Freed a c (timerNamed address) → ⊥) → v ≡ t) → Later address t
-      reads o f v h m g =
+      reads : (o : Object) → objectAt (d .objects) address ≡ some o → (v : Timer) → core o ≡ core (timer v) → ((Freed a c (timerNamed address) → ⊥) → v ≡ t) → Later address t
+      reads o f v h g =
           let x = end-core address o f in
           let y = timer-core v (x .0) (x .2 ∙ h) in
           record {
             now = y .0;
             read = told-timer s′ address (y .0) (ap asTimer (x .1 ∙ ap {B = Option Object} some (y .1)));
-            mode = ap (λ (u : Timer). u .«manual_reset») (y .2) ∙ m;
             signal = λ z. y .2 ∙ ap (λ (u : Timer). withSignal u (y .0 .signaled)) (g z);
+            expires = λ time e i u.
+                let q = p .expires time e address t here i u in
+                let m = timer-core (q .0) (x .0) (x .2 ∙ ap core (some-same o (timer (q .0)) (sym f ∙ q .1))) in
+                then-taken time t (q .0) (y .0) (let same : m .0 ≡ y .0 = ap (onTimer (y .0) (λ (z : Timer). z)) (sym (m .1) ∙ y .1) in sym same ∙ m .2 ∙ ap (λ (z : Timer). withSignal (q .0) (z .signaled)) same) (q .2);
           }
 
       changed : (q : Changed s c (d .objects) address) → Alike (q .was) (q .now) → Later address t
-      changed q (but-signal h) = reads (q .now) (q .after) t (h ∙ ap core (some-same (q .was) (timer t) (sym (q .before) ∙ here))) refl (λ z. refl)
-      changed q (but-expiry u v g h m) =
-          let e : u ≡ t = ap (onTimer u (λ (x : Timer). x)) (sym g ∙ some-same (q .was) (timer t) (sym (q .before) ∙ here)) in
-          reads (q .now) (q .after) v (ap core h) (m ∙ ap (λ (x : Timer). x .«manual_reset») e)
+      changed q (but-signal h) = reads (q .now) (q .after) t (h ∙ ap core (some-same (q .was) (timer t) (sym (q .before) ∙ here))) (λ z. refl)
+      changed q (but-expiry u v g h) =
+          reads (q .now) (q .after) v (ap core h)
           (λ z. absurd (z (subst (Freed a c) (named-by address (q .was) (d₀ .objects) 2 (q .before) (ap kindOf g)) (q .freed))))
 
       by : (objectAt (d .objects) address ≡ objectAt (d₀ .objects) address) ⊎ Changed s c (d .objects) address → Later address t
-      by (inl q) = reads (timer t) (q ∙ here) t refl refl (λ z. refl)
+      by (inl q) = reads (timer t) (q ∙ here) t refl (λ z. refl)
       by (inr q) = changed q (q .alike)
 
   -- ---- the whole of it
@@ -394,7 +409,10 @@ module _ (s : State) (quiet : Quiet (s .dispatcher)) (c : Call) (p : PassOf s c)
         (pass-alone d (d .waiters) once all-wait i j (listed i (g .for) (g .waited)) (listed j (g′ .for) (g′ .waited)) n g g′);
     nothing-else = λ n q. gained n (pass-falls d (d .waiters) once all-wait n (ended-falls n (told-available s′ n q)));
     only-signal = end-event;
-    timer-stays = λ address t r. let x = end-timer address t r in (x .now, x .read, x .mode, x .signal);
+    timer-stays = λ address t r. let x = end-timer address t r in (x .now, x .read, x .signal, x .expires);
+    same-dpc = ⊎-elim (λ (x : Advances c). inl x) (λ (e : s′ .dpcs ≡ s .dpcs). inr (λ k. dpc-answers s′ k ∙ ap (λ (q : Dpcs). given (dpcAt (q .table) k) (Refused 2) DpcIs) e ∙ sym (dpc-answers s k))) (p .dpcs);
+    same-queue = ⊎-elim (λ (x : Advances c). inl x) (λ (e : s′ .dpcs ≡ s .dpcs). inr (λ k. queue-answers s′ k ∙ ap (λ (q : Dpcs). given (nth (q .queue) k) None Number) e ∙ sym (queue-answers s k))) (p .dpcs);
+    same-counters = ⊎-elim (λ (x : Advances c). inl x) (λ (e : s′ .dpcs ≡ s .dpcs). inr (counters-answers s′ ∙ ap (λ (q : Dpcs). CountersAre (q .counters)) e ∙ sym (counters-answers s))) (p .dpcs);
     freed-stays = λ n f u. available-told s′ n (ended-available n (stays n u (available-offered d n (p .freed n f))));
     same-mutex = λ key nf u. owner-answers s′ key ∙ ap (λ (o : Option Mutex). given o (Refused 2) (λ (m : Mutex). numberOrNone (m .owner))) (untaken-same asMutex 0 (λ o e. on-mutex (λ x. x ≡ none) o (λ q. refl) (λ m q. absurd (e (ap kindOf q)))) key nf u) ∙ sym (owner-answers s key);
     same-event = λ key nf u. event-answers s′ key ∙ ap (λ (o : Option Event). given o None EventIs) (untaken-same asEvent 1 (λ o e. on-event (λ x. x ≡ none) o (λ q. refl) (λ m q. absurd (e (ap kindOf q)))) key nf u) ∙ sym (event-answers s key);

@@ -33,6 +33,7 @@ pub mod Firing
 pub mod Leaving
 pub mod Told
 pub mod AcceptanceLaws
+pub mod CancelLaws
 pub mod BehindLaws
 pub mod SumsLaws
 pub mod Asking

@@ -1,5 +1,5 @@
 -- The four calls that run a wake pass: what each makes available before it, and that `advance_to` then times out others.
-use Prim.Native.Nat.{ℕ, suc, _+_, _≤_}
+use Prim.Native.Nat.{ℕ, suc, _+_, _-_, _*_, _/_, _%_, _≤_, _<_}
 use mathlib.Core.List.{List, [], _∷_}
 use mathlib.Core.Bool.{Bool, true, false, cond}
 use mathlib.Core.Option.{Option, none, some}
@@ -7,21 +7,22 @@ use mathlib.Core.Logic.{_⊎_, inl, inr, ⊎-elim}
 use mathlib.Core.Path.{_≡_, refl, sym, ap, _∙_, subst}
 use native.Mathlib.Omega.{arith}
 use native.Mathlib.Decide.{ℕ-discrete}
-use borrow.Author.Tests.{eqb-false, leb-true, le-leb}
+use native.Mathlib.Nat.{add-mul, one-mul, mod-lt, div-add-mod'}
+use borrow.Author.Tests.{eqb-true, eqb-false, leb-true, le-leb}
 use lib.Dec.{eqb, leb}
 use Rattle.images.specs.declared.Timer.{Timer}
 use Rattle.model.specs.Lists.{Mem, member, present, given}
 use Rattle.model.specs.State.{State, Dispatcher, Thread, Status, running, ready, waiting, exited, satisfied, timeout, Named, Mutex, Event, Object, mutex, event, timer, Policy}
 use Rattle.model.specs.Threads.{count, threadAt, threadOf, statusOf, hasExited, isWaiting, waitOf, withObjects, withStatus, readyAgain, becomes, terminated, woken, numbersOf}
-use Rattle.model.specs.Waits.{keyOf, objectAt, asTimer, mutexAt, eventAt, ofKind, isFree, isAvailable, putObject, ownedBy, signaledAs, reached, isOverdue, pass, wake, timeOutEach, timeOut}
-use Rattle.model.specs.Timers.{Expired, expired, isDue, dueTimers, expireOne, expireEach}
+use Rattle.model.specs.Waits.{onTimer, keyOf, objectAt, asTimer, mutexAt, eventAt, ofKind, isFree, isAvailable, putObject, ownedBy, signaledAs, reached, isOverdue, pass, wake, timeOutEach, timeOut}
+use Rattle.model.specs.Timers.{Expired, expired, retimed, nextDue, isDue, dueTimers, expireOne, expireEach}
 use Rattle.model.specs.Valid.{Valid}
 use Rattle.model.specs.Refusal.{unexpired, signalRefusal, releaseRefusal, terminateRefusal, ownsMutex}
 use Rattle.model.specs.Answer.{Outcome, gives, Done, Flag}
 use Rattle.model.specs.Call.{Call, SetEvent, ReleaseMutex, Terminate, AdvanceTo}
 use Rattle.model.specs.Step.{step, refusal, effect, withDispatcher, eventSet, mutexReleased, advanced, expiredAt}
 use Rattle.model.proofs.ListLaws.{not-both, member-mem, member-not}
-use Rattle.model.proofs.TableLaws.{found, find-put-own, find-put-other}
+use Rattle.model.proofs.TableLaws.{some-same, found, find-put-own, find-put-other}
 use Rattle.model.proofs.ThreadLaws.{length-change, change-own, change-other, stands-somewhere, standing-moved}
 use Rattle.model.proofs.SoundLaws.{is-thread}
 use Rattle.model.proofs.ObjectLaws.{core, mutex-found, event-found, timer-found}
@@ -32,13 +33,13 @@ use Rattle.model.proofs.ExpiryLaws.{expired-is, Pending, pending-on, du
 use Rattle.model.proofs.OrderLaws.{due-listed, listed-due}
 use Rattle.model.proofs.WdkLaws.{step-is}
 use Rattle.model.specs.Wakes as calls
-use Rattle.model.specs.Wakes.{readingsOf, mutexNamed, eventNamed, threadNamed, Freed, RunsPass, WakePass}
+use Rattle.model.specs.Wakes.{readingsOf, mutexNamed, eventNamed, threadNamed, Freed, Expires, Advances, RunsPass, WakePass}
 use Rattle.model.proofs.TakeLaws.{nameOf}
 use Rattle.model.proofs.PassLaws as at
 use Rattle.model.proofs.PassLaws.{offered-available}
 use Rattle.model.proofs.Told.{timer-told, told-timer, current-told, told-current}
 use Rattle.model.proofs.GiveLaws as give
-use Rattle.model.proofs.GiveLaws.{Ended, Changed, PassOf, gives-pass}
+use Rattle.model.proofs.GiveLaws.{Ended, Changed, ExpiresIn, PassOf, gives-pass}
 
 -- nothing after the pass
 ended-so : (d d′ : Dispatcher) → d′ ≡ d → Ended d d′
@@ -53,8 +54,9 @@ ended-so d d′ e = subst (Ended d) (sym e) (record {
 -- objects alone are changed
 objects-only : (s : State) → Valid s → (c : Call) (l : List Object) → ((k : ℕ) → (objectAt l k ≡ objectAt (s .dispatcher .objects) k) ⊎ Changed s c l k)
     → ((n : Named) → Freed (readingsOf s) c n → isAvailable (withObjects (s .dispatcher) l) n ≡ true)
+    → ExpiresIn s c l → Advances c ⊎ (step c s .state .dpcs ≡ s .dpcs)
     → Ended (pass (withObjects (s .dispatcher) l) (s .dispatcher .waiters)) (step c s .state .dispatcher) → PassOf s c
-objects-only s v c l o f e = record {
+objects-only s v c l o f x q e = record {
   at = withObjects (s .dispatcher) l;
   standing = v .sound .standing;
   number = refl;
@@ -64,6 +66,8 @@ objects-only s v c l o f e = record {
   exited = λ i q. inl q;
   objects = o;
   freed = f;
+  expires = x;
+  dpcs = q;
   ended = e;
 }
 
@@ -98,6 +102,8 @@ module _ (s : State) (v : Valid s) (key : ℕ) where
       go (some e) q y = objects-only s v (SetEvent key) (putObject (signaledAs true e) (s .dispatcher .objects))
           (put-free s (SetEvent key) key (signaledAs true e) (event e) here refl refl refl (calls.by-set key refl (ap eventNamed (found keyOf (s .dispatcher .objects) key (event e) here .1))))
           freed
+          (λ time c k t f i u. let w : _≡_ {A = ℕ} 0 1 = cc in absurd (omega arith))
+          (inr (ap (λ (o : Outcome). o .state .dpcs) (step-is (SetEvent key) s z) ∙ ap (λ (o : Option Event). given o (gives Done s) (λ (x : Event). gives (Flag (x .signaled)) (withDispatcher s (wake (withObjects (s .dispatcher) (putObject (signaledAs true x) (s .dispatcher .objects)))))) .state .dpcs) q))
           (ended-so _ _ (ap (λ (o : Outcome). o .state .dispatcher) (step-is (SetEvent key) s z)
           ∙ ap (λ (o : Option Event). given o (gives Done s) (λ (x : Event). gives (Flag (x .signaled)) (withDispatcher s (wake (withObjects (s .dispatcher) (putObject (signaledAs true x) (s .dispatcher .objects)))))) .state .dispatcher) q))
         where
@@ -130,6 +136,8 @@ module _ (s : State) (v : Valid s) (key : ℕ) where
       of m q = objects-only s v (ReleaseMutex key) (putObject (ownedBy 0 m) (s .dispatcher .objects))
           (put-free s (ReleaseMutex key) key (ownedBy 0 m) (mutex m) here refl refl refl (calls.by-release key refl (ap mutexNamed (found keyOf (s .dispatcher .objects) key (mutex m) here .1))))
           freed
+          (λ time c k t f i u. let w : _≡_ {A = ℕ} 0 1 = cc in absurd (omega arith))
+          (inr (ap (λ (o : Outcome). o .state .dpcs) (step-is (ReleaseMutex key) s z) ∙ ap (λ (o : Option Mutex). given o s (λ (x : Mutex). withDispatcher s (wake (withObjects (s .dispatcher) (putObject (ownedBy 0 x) (s .dispatcher .objects))))) .dpcs) q))
           (ended-so _ _ (ap (λ (o : Outcome). o .state .dispatcher) (step-is (ReleaseMutex key) s z)
           ∙ ap (λ (o : Option Mutex). given o s (λ (x : Mutex). withDispatcher s (wake (withObjects (s .dispatcher) (putObject (ownedBy 0 x) (s .dispatcher .objects))))) .dispatcher) q))
         where
@@ -179,6 +187,8 @@ module _ (s : State) (v : Valid s) (status : ℕ) where
         ];
         objects = λ j. inl refl;
         freed = freed k;
+        expires = λ time c k t f i u. let w : _≡_ {A = ℕ} 0 1 = cc in absurd (omega arith);
+        dpcs = inr (ap (λ (o : Outcome). o .state .dpcs) (step-is (Terminate status) s z));
         ended = ended-so _ _ (ap (λ (o : Outcome). o .state .dispatcher) (step-is (Terminate status) s z));
       }
     where
@@ -309,6 +319,26 @@ due-so now t e = go (t .inserted) refl e
     go true q z = (q, leb-true (t .due) now z)
     go false q z = absurd (not-both (sym z))
 
+-- the first time ahead that is whole periods after the due
+first-ahead : (due now p : ℕ) → due ≤ now → (p ≡ 0 → ⊥) → (now < due + ((now - due) / p + 1) * p) × (due + ((now - due) / p + 1) * p ≤ now + p)
+first-ahead due now p h n =
+    let r = div-add-mod' (now - due) p in
+    let m : (now - due) % p < p = mod-lt (now - due) (omega (arith, n)) in
+    let q = add-mul ((now - due) / p) 1 p ∙ ap (λ (k : ℕ). (now - due) / p * p + k) (one-mul p) in
+    (omega (arith, r, m, q), omega (arith, r, m, q))
+
+expires-so : (now : ℕ) (t : Timer) → t .due ≤ now → Expires now t (expired now t)
+unfolding expired nextDue
+expires-so now t h = go (eqb (t .«period_ms») 0) refl
+  where
+    go : (b : Bool) → eqb (t .«period_ms») 0 ≡ b
+        → Expires now t (cond (cond b false true) (retimed t true true (t .due + ((now - t .due) / (10000 * t .«period_ms») + 1) * (10000 * t .«period_ms»))) (retimed t true false (t .due)))
+    go true q = calls.once (eqb-true (t .«period_ms») 0 q) refl
+    go false q =
+        let n = eqb-false (t .«period_ms») 0 q in
+        let a = first-ahead (t .due) now (10000 * t .«period_ms») h (λ z. n (omega (arith, z))) in
+        calls.again ((now - t .due) / (10000 * t .«period_ms») + 1) n (a .0) (a .1) refl
+
 module _ (s : State) (v : Valid s) (time : ℕ) where
   abbrev l : List Object
   l = s .dispatcher .objects
@@ -328,7 +358,7 @@ module _ (s : State) (v : Valid s) (time : ℕ) where
         now = timer (expired time (r .0));
         before = r .2;
         after = r .3;
-        alike = give.but-expiry (r .0) (expired time (r .0)) refl refl (expired-is time (r .0) .2);
+        alike = give.but-expiry (r .0) (expired time (r .0)) refl refl;
         free = expired-is time (r .0) .1;
         freed = calls.by-expiry time (r .0) refl refl (told-timer s (r .0 .address) (r .0) (ap asTimer (ap (objectAt l) (found keyOf l k (timer (r .0)) (r .2) .1) ∙ r .2))) (u .0) (u .1);
       }))
@@ -350,9 +380,21 @@ module _ (s : State) (v : Valid s) (time : ℕ) where
   freed n (calls.by-release j c m) = let w : _≡_ {A = ℕ} 0 1 = cc in absurd (omega arith)
   freed n (calls.by-exit st i c r m) = let w : _≡_ {A = ℕ} 0 1 = cc in absurd (omega arith)
 
+  expires : ExpiresIn s (AdvanceTo time) (expiredAt s time .objects)
+  expires tm c k t f i u =
+      let w : time ≡ tm = cc in
+      subst (λ (j : ℕ). t .due ≤ j → (x : Timer) × (objectAt (expiredAt s time .objects) k ≡ some (timer x)) × Expires j t x) w
+      (λ h. ⊎-elim
+      (λ (x : (objectAt (expiredAt s time .objects) k ≡ objectAt l k) × ((t : Timer) → Mem t (dueTimers (s .policy) time l) → t .address ≡ k → ⊥)).
+      absurd (x .1 t (due-listed (s .policy) time l t (found keyOf l k (timer t) f .0) (ap (λ (b : Bool). cond b (leb (t .due) time) false) i ∙ le-leb (t .due) time h)) (found keyOf l k (timer t) f .1)))
+      (λ (x : (t : Timer) × (Mem t (dueTimers (s .policy) time l)) × (objectAt l k ≡ some (timer t)) × (objectAt (expiredAt s time .objects) k ≡ some (timer (expired time t)))).
+      let e : x .0 ≡ t = ap (onTimer t (λ (y : Timer). y)) (some-same (timer (x .0)) (timer t) (sym (x .2) ∙ f)) in
+      (expired time t, x .3 ∙ ap {B = Option Object} (λ (y : Timer). some (timer (expired time y))) e, expires-so time t h))
+      (expiry k)) u
+
   advance-pass : refusal (AdvanceTo time) s ≡ 0 → PassOf s (AdvanceTo time)
   unfolding effect advanced wake
-  advance-pass z = objects-only s v (AdvanceTo time) (expiredAt s time .objects) changed freed
+  advance-pass z = objects-only s v (AdvanceTo time) (expiredAt s time .objects) changed freed expires (inl (time, refl))
       (subst (Ended (wake (withObjects (s .dispatcher) (expiredAt s time .objects)))) (sym (ap (λ (o : Outcome). o .state .dispatcher) (step-is (AdvanceTo time) s z)))
       (ended-out time (wake (withObjects (s .dispatcher) (expiredAt s time .objects)))))
 

@@ -3,10 +3,12 @@ use Prim.Native.Nat.{ℕ, _+_, _≤_}
 use mathlib.Core.List.{List}
 use mathlib.Core.Bool.{Bool, true, false, cond, not, _&&_, _||_}
 use mathlib.Core.Option.{Option, none, some}
-use mathlib.Core.Path.{_≡_, refl, sym, ap, _∙_, subst}
+use mathlib.Core.Path.{_≡_, refl, sym, ap, _∙_, subst, subst₂}
 use native.Mathlib.Omega.{arith}
 use borrow.Author.Tests.{eqb-false, leb-true, le-leb, ltb-true, ltb-false, lt-ltb}
 use lib.Dec.{eqb, leb, ltb}
+use Rattle.arch.specs.declared.Architecture.{Architecture}
+use Rattle.arch.specs.declared.Architecture.the-variants.{X64, X86}
 use Rattle.images.specs.declared.Timer.{Timer}
 use Rattle.images.specs.declared.Dpc.{Dpc}
 use Rattle.images.specs.Place.{overlaps, timerSize, dpcSize}
@@ -27,7 +29,7 @@ use Rattle.model.proofs.TableLaws.{some-same, none-some, found, find-ke
 use Rattle.model.proofs.ObjectLaws.{on-event, on-timer, event-found, timer-found}
 use Rattle.model.proofs.RowLaws.{passes, or-false, and-true, event-mem}
 use Rattle.model.proofs.WdkLaws.{step-is}
-use Rattle.model.specs.Leaving.{Meets, TimersRetired, EventsRetired}
+use Rattle.model.specs.Leaving.{timerBytes, dpcBytes, Meets, TimersRetired, EventsRetired}
 
 -- ---- those that are kept, of a table
 
@@ -80,6 +82,14 @@ apart-kept a n b m h = go (overlaps a n b m) refl
     go true q = absurd (h (overlap-meets a n b m q))
     go false q = refl
 
+timer-bytes : (a : Architecture) → timerSize a ≡ timerBytes a
+timer-bytes X64 = refl
+timer-bytes X86 = refl
+
+dpc-bytes : (a : Architecture) → dpcSize a ≡ dpcBytes a
+dpc-bytes X64 = refl
+dpc-bytes X86 = refl
+
 module _ (s : State) (v : Valid s) where
   abbrev objects₀ : List Object
   objects₀ = s .dispatcher .objects
@@ -99,13 +109,13 @@ module _ (s : State) (v : Valid s) where
   pub retire-timers : (address size : ℕ) → refusal (call.RetireTimerBacking address size) s ≡ 0 → TimersRetired s (step (call.RetireTimerBacking address size) s .state) address size
   unfolding effect timersRetired
   retire-timers address size e = subst (λ (o : Outcome). TimersRetired s (o .state) address size) (sym (step-is (call.RetireTimerBacking address size) s e)) (record {
-    timer-gone = λ k x f h. ap asTimer (gone keyOf kept objects₀ (v .sound .rising) k (timer x) (timer-found (objectAt objects₀ k) x f) (ap not (meets-overlap address size (x .address) (timerSize (x .architecture)) (subst (λ (a : ℕ). Meets address size a (timerSize (x .architecture))) (sym (timer-key k x f)) h))));
+    timer-gone = λ k x f h. ap asTimer (gone keyOf kept objects₀ (v .sound .rising) k (timer x) (timer-found (objectAt objects₀ k) x f) (ap not (meets-overlap address size (x .address) (timerSize (x .architecture)) (subst₂ (λ (a m : ℕ). Meets address size a m) (sym (timer-key k x f)) (sym (timer-bytes (x .architecture))) h))));
     timer-stays = λ k h. ap asTimer (stays keyOf kept objects₀ (v .sound .rising) k (λ o f. on-timer (λ b. not b ≡ true) o (λ n. refl)
-        (λ t q. let z = ap asTimer (f ∙ ap some q) in apart-kept address size (t .address) (timerSize (t .architecture)) (λ m. h t z (subst (λ (a : ℕ). Meets address size a (timerSize (t .architecture))) (timer-key k t z) m)))));
+        (λ t q. let z = ap asTimer (f ∙ ap some q) in apart-kept address size (t .address) (timerSize (t .architecture)) (λ m. h t z (subst₂ (λ (a n : ℕ). Meets address size a n) (timer-key k t z) (timer-bytes (t .architecture)) m)))));
     events = λ k. unchanged keyOf kept objects₀ (v .sound .rising) k asEvent no-event;
     mutexes = λ k. unchanged keyOf kept objects₀ (v .sound .rising) k asMutex no-mutex;
-    dpc-gone = λ a x f h. gone addressOf dpc-kept (s .dpcs .table) (v .queueing .rising) a x f (ap not (meets-overlap address size (x .address) (dpcSize (x .architecture)) (subst (λ (b : ℕ). Meets address size b (dpcSize (x .architecture))) (sym (dpc-key a x f)) h)));
-    dpc-stays = λ a h. stays addressOf dpc-kept (s .dpcs .table) (v .queueing .rising) a (λ x f. apart-kept address size (x .address) (dpcSize (x .architecture)) (λ m. h x f (subst (λ (b : ℕ). Meets address size b (dpcSize (x .architecture))) (dpc-key a x f) m)));
+    dpc-gone = λ a x f h. gone addressOf dpc-kept (s .dpcs .table) (v .queueing .rising) a x f (ap not (meets-overlap address size (x .address) (dpcSize (x .architecture)) (subst₂ (λ (b m : ℕ). Meets address size b m) (sym (dpc-key a x f)) (sym (dpc-bytes (x .architecture))) h)));
+    dpc-stays = λ a h. stays addressOf dpc-kept (s .dpcs .table) (v .queueing .rising) a (λ x f. apart-kept address size (x .address) (dpcSize (x .architecture)) (λ m. h x f (subst₂ (λ (b n : ℕ). Meets address size b n) (dpc-key a x f) (dpc-bytes (x .architecture)) m)));
     queue = refl;
     counters = refl;
     threads = record { threads = refl; current = refl };

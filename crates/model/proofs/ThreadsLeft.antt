@@ -1,5 +1,5 @@
 -- What the calls on threads leave of each thread: a termination, a wait, an advance, a priority, a creation.
-use Prim.Native.Nat.{ℕ, suc, _+_, _≤_, _<_}
+use Prim.Native.Nat.{ℕ, zero, suc, _+_, _*_, _≤_, _<_}
 use mathlib.Core.List.{List, [], _∷_, _++_}
 use mathlib.Core.Bool.{Bool, true, false, cond}
 use mathlib.Core.Option.{Option, none, some}
@@ -7,10 +7,10 @@ use mathlib.Core.Path.{_≡_, refl, sym, ap, _∙_, subst}
 use mathlib.Core.Logic.{_⊎_, inl, inr}
 use native.Mathlib.Omega.{arith}
 use native.Mathlib.Decide.{ℕ-discrete, decLt}
-use borrow.Author.Tests.{eq-eqb, ne-eqb, eqb-true, eqb-false, leb-false}
+use borrow.Author.Tests.{eq-eqb, ne-eqb, eqb-true, eqb-false, leb-true, leb-false}
 use lib.Dec.{eqb, leb, ltb}
-use lib.ListN.{length}
-use Rattle.model.specs.Lists.{given}
+use lib.ListN.{length, getD}
+use Rattle.model.specs.Lists.{nth, given}
 use Rattle.model.specs.State.{State, Dispatcher, Thread, Status, running, ready, waiting, exited, Wait, WaitResult, satisfied, timeout, Named, Mutex, Event, Object, mutex, event}
 use Rattle.model.specs.Threads.{count, changeAt, threadOf, statusOf, isThread, isRunning, isReady, isWaiting, waitOf, currentAs, withThread, withObjects, becomes, created, prioritized, yielded, terminated, blocked}
 use Rattle.model.specs.Waits.{keyOf, kindOf, objectAt, mutexAt, eventAt, mutexesOf, putObject, ownedBy, signaledAs, isMet, reached, index, wake, timeOut}
@@ -33,7 +33,7 @@ use Rattle.model.proofs.KeepTimers.{begun}
 use Rattle.model.proofs.StepLaws.{valid-step}
 use Rattle.model.proofs.WdkLaws.{step-is}
 use Rattle.model.specs.Leaving as leaving
-use Rattle.model.specs.Leaving.{exitedWith, runsAfter, readyAfter, waitsWith, givenPriority, freshThread, threadNumbered, OneThread, Creates, Becomes, GoesOn, Ungranted, WaitLeaves, AfterWake, AfterAdvance, ThatMutex, ThatEvent, ThatThread, DueTimer, Exits, Yields}
+use Rattle.model.specs.Leaving.{exitedWith, runsAfter, readyAfter, waitsWith, givenPriority, freshThread, threadNumbered, OneThread, Creates, Becomes, Names, GoesOn, Ungranted, WaitLeaves, AfterWake, AfterAdvance, ThatMutex, ThatEvent, ThatThread, DueTimer, Exits, Yields}
 use Rattle.model.proofs.PutLaws.{numberedIn, numbered-in, numbered-out, thread-put}
 use Rattle.model.proofs.FreedLaws.{put-freed, thread-freed, time-freed}
 use Rattle.model.proofs.WakeLeaves.{wake-after, wake-count, wake-none, timeouts-after, timeouts-count}
@@ -70,6 +70,25 @@ ready-not running e = absurd (not-both (sym e))
 ready-not ready e = refl
 ready-not (waiting w) e = refl
 ready-not (exited n) e = refl
+
+-- ---- what a wait's list names
+
+pub names-pairs : (l : List ℕ) → Names l (pairs l)
+names-pairs [] = record { named = λ k h. absurd (omega arith); no-more = λ k h. refl }
+names-pairs (kind ∷ []) = record { named = λ k h. absurd (omega arith); no-more = λ k h. refl }
+names-pairs (kind ∷ key ∷ l) = let r = names-pairs l in record { named = named r; no-more = no-more r }
+  where
+    two : (k : ℕ) → (suc (suc (2 * k)) ≡ 2 * suc k) × (suc (suc (2 * k + 1)) ≡ 2 * suc k + 1)
+    two k = (omega arith, omega arith)
+
+    named : Names l (pairs l) → (k : ℕ) → 2 * k + 1 < length (kind ∷ key ∷ l) → nth (pairs (kind ∷ key ∷ l)) k ≡ some (record { kind = getD (kind ∷ key ∷ l) (2 * k) 0; key = getD (kind ∷ key ∷ l) (2 * k + 1) 0 })
+    named r zero h = refl
+    named r (suc k) h = r .named k (omega arith) ∙ ap (λ (n : ℕ). some (record { kind = getD (kind ∷ key ∷ l) n 0; key = getD l (2 * k + 1) 0 })) (two k .0)
+        ∙ ap (λ (n : ℕ). some (record { kind = getD (kind ∷ key ∷ l) (2 * suc k) 0; key = getD (kind ∷ key ∷ l) n 0 })) (two k .1)
+
+    no-more : Names l (pairs l) → (k : ℕ) → length (kind ∷ key ∷ l) ≤ 2 * k + 1 → nth (pairs (kind ∷ key ∷ l)) k ≡ none
+    no-more r zero h = absurd (omega arith)
+    no-more r (suc k) h = r .no-more k (omega arith)
 
 -- ---- which thread is current
 
@@ -163,6 +182,8 @@ module _ (s : State) (v : Valid s) where
       subst (λ (o : Outcome). Yields s (o .state) me mine) (sym (step-is call.YieldCurrent s e)) (record {
         thread = thread-put s (withDispatcher s (yielded d₀)) me (record { priority = mine .priority; status = ready; result = mine .result }) (thread-me c) refl;
         current = out;
+        objects = refl;
+        dpcs = refl;
       })
 
   -- ---- waits
@@ -177,13 +198,17 @@ module _ (s : State) (v : Valid s) where
     current = k;
   }
 
-  ungranted : eqb (s .dispatcher .current) 0 ≡ false → (ns : List Named) (all : Bool) (deadline : Option ℕ) (b : Bool) → let o = cond b (timedOut s) (blocks s ns all deadline) in
+  ungranted : eqb (s .dispatcher .current) 0 ≡ false → (ns : List Named) (all : Bool) (deadline : Option ℕ) (b : Bool) → reached deadline (s .now) ≡ b → let o = cond b (timedOut s) (blocks s ns all deadline) in
       Ungranted s (o .state) (s .dispatcher .current) (threadOf (s .dispatcher) (s .dispatcher .current)) ns all deadline (o .answer)
   unfolding timedOut blocks blocked becomes
-  ungranted c ns all deadline true = leaving.times-out refl (goes-on c (timedOut s .state .dispatcher) timeout refl refl) refl
-  ungranted c ns all deadline false =
+  ungranted c ns all deadline true e = let r = reached-so deadline e in leaving.times-out refl (r .0) (r .1) (r .2) (goes-on c (timedOut s .state .dispatcher) timeout refl refl) refl
+    where
+      reached-so : (x : Option ℕ) → reached x (s .now) ≡ true → (end : ℕ) × (x ≡ some end) × (end ≤ s .now)
+      reached-so none q = absurd (not-both (sym q))
+      reached-so (some end) q = (end, refl, leb-true end (s .now) q)
+  ungranted c ns all deadline false e =
       let w : Wait = record { objects = ns; all = all; deadline = deadline; sequence = d₀ .sequence } in
-      leaving.blocks refl (record {
+      leaving.blocks refl (λ end q. leb-false end (s .now) (ap (λ (x : Option ℕ). reached x (s .now)) (sym q) ∙ e)) (record {
         sequence = d₀ .sequence;
         thread = thread-put s (blocks s ns all deadline .state) me (waitsWith w mine) (thread-me c) refl;
         last = λ j y q. omega (arith, ap (λ (x : Status). waitOf x .sequence) q, v .sound .standing .below j (member-mem j (d₀ .waiters) (v .sound .standing .waiters-waiting j ∙ ap isWaiting q)));
@@ -191,7 +216,7 @@ module _ (s : State) (v : Valid s) where
         untouched = refl;
       })
 
-  -- the thread's result is what the wait answers; else it waits for just this list
+  -- the thread's result is what the wait answers; else it waits for just these objects
   pub wait-result : (l : List ℕ) (all : Bool) (deadline : Option ℕ) (irql : ℕ) → refusal (call.Wait l all deadline irql) s ≡ 0
       → WaitLeaves s (step (call.Wait l all deadline irql) s .state) (s .dispatcher .current) (threadOf (s .dispatcher) (s .dispatcher .current)) (pairs l) all deadline (step (call.Wait l all deadline irql) s .answer)
   unfolding refusal waitRefusal effect waited granted
@@ -201,7 +226,7 @@ module _ (s : State) (v : Valid s) where
     where
       go : eqb me 0 ≡ false → (b : Bool) → let o = cond b (granted s (pairs l) all) (cond (reached deadline (s .now)) (timedOut s) (blocks s (pairs l) all deadline)) in WaitLeaves s (o .state) me mine (pairs l) all deadline (o .answer)
       go c true = leaving.grants (index d₀ (pairs l) all) refl (goes-on c (granted s (pairs l) all .state .dispatcher) (satisfied (index d₀ (pairs l) all)) refl refl)
-      go c false = leaving.otherwise (ungranted c (pairs l) all deadline (reached deadline (s .now)))
+      go c false = leaving.otherwise (ungranted c (pairs l) all deadline (reached deadline (s .now)) refl)
 
   -- a delay waits for no object
   pub delay-result : (deadline irql : ℕ) → refusal (call.DelayUntil deadline irql) s ≡ 0
@@ -210,7 +235,14 @@ module _ (s : State) (v : Valid s) where
   delay-result deadline irql e =
       let h = passes (ltb 1 irql) 8 _ e in
       subst (λ (o : Outcome). Ungranted s (o .state) me mine [] false (some deadline) (o .answer)) (sym (step-is (call.DelayUntil deadline irql) s e))
-      (ungranted (passes (eqb me 0) 2 _ (h .1) .0) [] false (some deadline) (leb deadline (s .now)))
+      (ungranted (passes (eqb me 0) 2 _ (h .1) .0) [] false (some deadline) (leb deadline (s .now)) refl)
+
+  -- ---- the time
+
+  -- an advance sets the time
+  pub advance-time : (time : ℕ) → refusal (call.AdvanceTo time) s ≡ 0 → step (call.AdvanceTo time) s .state .now ≡ time
+  unfolding effect advanced
+  advance-time time e = ap (λ (o : Outcome). o .state .now) (step-is (call.AdvanceTo time) s e)
 
   -- ---- calls with a wake pass
 

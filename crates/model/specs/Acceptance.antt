@@ -6,12 +6,13 @@ use mathlib.Core.Bool.{Bool, true, false}
 use mathlib.Core.Logic.{_⊎_}
 use mathlib.Core.Path.{_≡_}
 use Rattle.images.specs.declared.Timer.{Timer}
+use Rattle.images.specs.declared.Dpc.{Dpc}
 use Rattle.images.specs.declared.DpcWork.{DpcWork}
 use Rattle.images.specs.declared.DpcOrigin.the-variants as origin
 use Rattle.images.specs.declared.DpcPhase.{DpcPhase}
 use Rattle.images.specs.declared.DpcPhase.the-variants.{Queued, Running, Returning}
 use Rattle.model.specs.State.{Counters, cpu0Dispatch}
-use Rattle.model.specs.Answer.{Answer, Done, Flag, TimerIs, PolicyIs, CountersAre}
+use Rattle.model.specs.Answer.{Answer, Done, Flag, TimerIs, DpcIs, PolicyIs, CountersAre}
 use Rattle.model.specs.Call.{Call, Open, InsertQueueDpc, AdvanceTo}
 use Rattle.model.specs.Call as call
 
@@ -69,6 +70,15 @@ pub record Numbered (before after : Call → Answer) (k : DpcWork) : Type 0 wher
 pub record Accepts (before after : Call → Answer) (c : Call) (a : ℕ) (k : DpcWork) : Type 0 where
   pub from : FromInsert before c a k ⊎ FromExpiry before c a k
   pub numbered : Numbered before after k
+
+-- the DPC reads as queued with the work, whose number is the last of the acceptances
+pub record QueuedLast (after : Call → Answer) (a : ℕ) (k : DpcWork) : Type 0 where
+  pub dpc : Dpc
+  pub read : after (call.Reads (call.DpcAt a)) ≡ DpcIs dpc
+  pub queued : dpc .phase ≡ Queued k
+  pub counters : Counters
+  pub counted : after (call.Reads call.DpcCounters) ≡ CountersAre counters
+  pub last : k .sequence ≡ counters .accepted
 
 -- ---- a list of calls. `asks` is what a call would be answered after a list of calls
 

@@ -1,21 +1,25 @@
 -- What a call leaves: records written out field by field, what stays as it was, and what becomes of each thread.
-use Prim.Native.Nat.{ℕ, _+_, _≤_, _<_}
+use Prim.Native.Nat.{ℕ, _+_, _*_, _≤_, _<_}
 use mathlib.Core.List.{List}
 use mathlib.Core.Bool.{Bool, true, false, cond}
 use mathlib.Core.Option.{Option, none, some}
 use mathlib.Core.Path.{_≡_}
+use lib.ListN.{length, getD}
 use Rattle.arch.specs.declared.Architecture.{Architecture}
+use Rattle.arch.specs.declared.Architecture.the-variants.{X64, X86}
 use Rattle.images.specs.declared.TimerBacking.{TimerBacking}
 use Rattle.images.specs.declared.Timer.{Timer}
 use Rattle.images.specs.declared.Dpc.{Dpc}
-use Rattle.images.specs.declared.DpcPhase.the-variants.{Idle}
-use Rattle.images.specs.Place.{timerSize, dpcSize}
+use Rattle.images.specs.declared.DpcWork.{DpcWork}
+use Rattle.images.specs.declared.DpcPhase.the-variants.{Idle, Queued}
 use Rattle.model.specs.Lists.{nth}
-use Rattle.model.specs.State.{State, Thread, Wait, WaitResult, running, ready, waiting, exited, satisfied, timeout, Named, Event, Object, Policy}
+use Rattle.model.specs.State.{State, Thread, Wait, WaitResult, running, ready, waiting, exited, satisfied, timeout, Named, Event, Object, Counters, Policy, unselected}
 use Rattle.model.specs.Threads.{isThread, threadOf, statusOf}
 use Rattle.model.specs.Waits.{objectAt, mutexAt, eventAt, timerAt}
 use Rattle.model.specs.Dpcs.{dpcAt}
 use Rattle.model.specs.Answer.{Answer, Satisfied, Timeout, Blocked}
+use Rattle.model.specs.Wakes.{timerWith}
+use Rattle.model.specs.Acceptance.{OwnWork}
 
 -- ---- threads
 
@@ -72,21 +76,7 @@ setWith x due absolute period dpc =
 
 -- not inserted; the rest as it was
 abbrev pub takenOut : Timer → Timer
-takenOut x =
-    record {
-      address = x .address;
-      architecture = x .architecture;
-      backing = x .backing;
-      «manual_reset» = x .«manual_reset»;
-      signaled = x .signaled;
-      inserted = false;
-      due = x .due;
-      «period_ms» = x .«period_ms»;
-      dpc = x .dpc;
-      absolute = x .absolute;
-      «arm_generation» = x .«arm_generation»;
-      initialization = x .initialization;
-    }
+takenOut x = timerWith x (x .signaled) false (x .due)
 
 -- a new timer: neither signaled nor inserted, never set, with the number of its initialization
 abbrev pub freshTimer : ℕ → Architecture → TimerBacking → Bool → ℕ → Timer
@@ -109,6 +99,10 @@ freshTimer address a b manual n =
 -- a new DPC is idle, with its routine and its context
 abbrev pub freshDpc : ℕ → Architecture → TimerBacking → ℕ → ℕ → Dpc
 freshDpc address a b routine context = record { address = address; architecture = a; backing = b; routine = routine; context = context; phase = Idle }
+
+-- one removal more; the other counts as they were
+abbrev pub oneMoreRemoved : Counters → Counters
+oneMoreRemoved c = record { accepted = c .accepted; duplicates = c .duplicates; removed = c .removed + 1; started = c .started; returned = c .returned; restored = c .restored }
 
 -- ---- one record changed
 
@@ -172,6 +166,11 @@ pub record PolicySet (before after : State) (p : Policy) : Type 0 where
 
 -- ---- a wait of the current thread
 
+-- the objects that a wait's list names, in its order: kinds and keys in turn
+pub record Names (l : List ℕ) (objects : List Named) : Type 0 where
+  pub named : (k : ℕ) → 2 * k + 1 < length l → nth objects k ≡ some (record { kind = getD l (2 * k) 0; key = getD l (2 * k + 1) 0 })
+  pub no-more : (k : ℕ) → length l ≤ 2 * k + 1 → nth objects k ≡ none
+
 -- it goes on, with this result
 pub record GoesOn (before after : State) (i : ℕ) (x : Thread) (r : WaitResult) : Type 0 where
   pub thread : ThreadPut before after i (runsAfter r x)
@@ -185,10 +184,11 @@ pub record Blocks (before after : State) (i : ℕ) (x : Thread) (objects : List 
   pub current : after .dispatcher .current ≡ 0
   pub untouched : after .dispatcher .objects ≡ before .dispatcher .objects
 
--- not granted: a timeout, or it blocks; no object is touched
+-- not granted: a timeout, at a deadline that is not ahead, or it blocks; no object is touched
 pub data Ungranted (before after : State) (i : ℕ) (x : Thread) (objects : List Named) (all : Bool) (deadline : Option ℕ) (answer : Answer) : Type 0 where
-  times-out : answer ≡ Timeout → GoesOn before after i x timeout → after .dispatcher .objects ≡ before .dispatcher .objects → Ungranted before after i x objects all deadline answer
-  blocks : answer ≡ Blocked → Blocks before after i x objects all deadline → Ungranted before after i x objects all deadline answer
+  times-out : answer ≡ Timeout → (end : ℕ) → deadline ≡ some end → end ≤ before .now → GoesOn before after i x timeout → after .dispatcher .objects ≡ before .dispatcher .objects
+      → Ungranted before after i x objects all deadline answer
+  blocks : answer ≡ Blocked → ((end : ℕ) → deadline ≡ some end → before .now < end) → Blocks before after i x objects all deadline → Ungranted before after i x objects all deadline answer
 
 -- granted or not: the thread's result is what the wait answers
 pub data WaitLeaves (before after : State) (i : ℕ) (x : Thread) (objects : List Named) (all : Bool) (deadline : Option ℕ) (answer : Answer) : Type 0 where
@@ -241,10 +241,34 @@ pub record Exits (before after : State) (i n : ℕ) (x : Thread) : Type 0 where
   pub current : after .dispatcher .current ≡ 0
   pub others : (j : ℕ) → (j ≡ i → ⊥) → Becomes (AfterWake (ThatThread i)) before after j
 
--- the thread is ready, and none is current
+-- the thread is ready, and none is current; the objects and the DPCs are as they were
 pub record Yields (before after : State) (i : ℕ) (x : Thread) : Type 0 where
   pub thread : ThreadPut before after i (record { priority = x .priority; status = ready; result = x .result })
   pub current : after .dispatcher .current ≡ 0
+  pub objects : after .dispatcher .objects ≡ before .dispatcher .objects
+  pub dpcs : after .dpcs ≡ before .dpcs
+
+-- ---- a cancel
+
+-- the work that the timer has put into its DPC's queue, under a policy
+pub record OwnQueued (s : State) (x : Timer) (d : Dpc) (k : DpcWork) : Type 0 where
+  pub inserted : x .inserted ≡ true
+  pub policy : s .policy ≡ unselected → ⊥
+  pub some-dpc : x .dpc ≡ 0 → ⊥
+  pub found : dpcAt (s .dpcs .table) (x .dpc) ≡ some d
+  pub queued : d .phase ≡ Queued k
+  pub own : OwnWork x k
+
+-- the DPC is idle, the others are as they were, and there is one removal more
+pub record Removed (before after : State) (d : Dpc) : Type 0 where
+  pub own : dpcAt (after .dpcs .table) (d .address) ≡ some (freshDpc (d .address) (d .architecture) (d .backing) (d .routine) (d .context))
+  pub others : (a : ℕ) → (a ≡ d .address → ⊥) → dpcAt (after .dpcs .table) a ≡ dpcAt (before .dpcs .table) a
+  pub counters : after .dpcs .counters ≡ oneMoreRemoved (before .dpcs .counters)
+
+-- a cancel removes that work and no other
+pub data CancelsWork (before after : State) (x : Timer) : Type 0 where
+  removes : (d : Dpc) (k : DpcWork) → OwnQueued before x d k → Removed before after d → CancelsWork before after x
+  leaves : ((d : Dpc) (k : DpcWork) → OwnQueued before x d k → ⊥) → after .dpcs ≡ before .dpcs → CancelsWork before after x
 
 -- ---- memory given back
 
@@ -256,15 +280,24 @@ pub record Meets (a n b m : ℕ) : Type 0 where
   pub from-other : b ≤ byte
   pub to-other : byte < b + m
 
+-- "timer size 64/40 .. DPC size 64/32 .. (x64/x86)"
+abbrev pub timerBytes : Architecture → ℕ
+timerBytes X64 = 64
+timerBytes X86 = 40
+
+abbrev pub dpcBytes : Architecture → ℕ
+dpcBytes X64 = 64
+dpcBytes X86 = 32
+
 -- every timer and every DPC that has a byte in the memory is gone, and nothing else
 pub record TimersRetired (before after : State) (address size : ℕ) : Type 0 where
-  pub timer-gone : (k : ℕ) (x : Timer) → timerAt (before .dispatcher .objects) k ≡ some x → Meets address size k (timerSize (x .architecture)) → timerAt (after .dispatcher .objects) k ≡ none
-  pub timer-stays : (k : ℕ) → ((x : Timer) → timerAt (before .dispatcher .objects) k ≡ some x → Meets address size k (timerSize (x .architecture)) → ⊥)
+  pub timer-gone : (k : ℕ) (x : Timer) → timerAt (before .dispatcher .objects) k ≡ some x → Meets address size k (timerBytes (x .architecture)) → timerAt (after .dispatcher .objects) k ≡ none
+  pub timer-stays : (k : ℕ) → ((x : Timer) → timerAt (before .dispatcher .objects) k ≡ some x → Meets address size k (timerBytes (x .architecture)) → ⊥)
       → timerAt (after .dispatcher .objects) k ≡ timerAt (before .dispatcher .objects) k
   pub events : (k : ℕ) → eventAt (after .dispatcher .objects) k ≡ eventAt (before .dispatcher .objects) k
   pub mutexes : (k : ℕ) → mutexAt (after .dispatcher .objects) k ≡ mutexAt (before .dispatcher .objects) k
-  pub dpc-gone : (a : ℕ) (x : Dpc) → dpcAt (before .dpcs .table) a ≡ some x → Meets address size a (dpcSize (x .architecture)) → dpcAt (after .dpcs .table) a ≡ none
-  pub dpc-stays : (a : ℕ) → ((x : Dpc) → dpcAt (before .dpcs .table) a ≡ some x → Meets address size a (dpcSize (x .architecture)) → ⊥)
+  pub dpc-gone : (a : ℕ) (x : Dpc) → dpcAt (before .dpcs .table) a ≡ some x → Meets address size a (dpcBytes (x .architecture)) → dpcAt (after .dpcs .table) a ≡ none
+  pub dpc-stays : (a : ℕ) → ((x : Dpc) → dpcAt (before .dpcs .table) a ≡ some x → Meets address size a (dpcBytes (x .architecture)) → ⊥)
       → dpcAt (after .dpcs .table) a ≡ dpcAt (before .dpcs .table) a
   pub queue : after .dpcs .queue ≡ before .dpcs .queue
   pub counters : after .dpcs .counters ≡ before .dpcs .counters

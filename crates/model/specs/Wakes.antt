@@ -1,5 +1,5 @@
 -- What `set_event`, `release_mutex`, `terminate` and `advance_to` do for the threads that wait, by what the reads answer before the call and after it.
-use Prim.Native.Nat.{ℕ, _≤_, _<_}
+use Prim.Native.Nat.{ℕ, _+_, _*_, _≤_, _<_}
 use mathlib.Core.List.{[]}
 use mathlib.Core.Bool.{Bool, true, false, cond}
 use mathlib.Core.Option.{some}
@@ -8,7 +8,6 @@ use mathlib.Core.Path.{_≡_}
 use Rattle.images.specs.declared.Timer.{Timer}
 use Rattle.model.specs.Lists.{Mem, nth}
 use Rattle.model.specs.State.{State, Thread, ready, waiting, exited, satisfied, Wait, Named, Event}
-use Rattle.model.specs.Waits.{withSignal}
 use Rattle.model.specs.Answer.{Answer, None, ThreadNumber, ThreadIs, EventIs, TimerIs}
 use Rattle.model.specs.Call.{Call, Read, SetEvent, ReleaseMutex, Terminate, AdvanceTo}
 use Rattle.model.specs.Call as call
@@ -101,6 +100,33 @@ pub record TakenFirst (a b : Readings) (sequence : ℕ) (n : Named) : Type 0 whe
   pub got : WokenBy a b n number for
   pub single : Single b n
 
+-- ---- timers
+
+-- with another signal, insertion and due; the rest as it was
+abbrev pub timerWith : Timer → Bool → Bool → ℕ → Timer
+timerWith t signal inserted due =
+    record {
+      address = t .address;
+      architecture = t .architecture;
+      backing = t .backing;
+      «manual_reset» = t .«manual_reset»;
+      signaled = signal;
+      inserted = inserted;
+      due = due;
+      «period_ms» = t .«period_ms»;
+      dpc = t .dpc;
+      absolute = t .absolute;
+      «arm_generation» = t .«arm_generation»;
+      initialization = t .initialization;
+    }
+
+-- what an advance to `time` makes of a timer that is due by then, but for its signal, which a woken thread may have taken. Without a period it is
+-- inserted no more. With one, of ms of 10,000 ticks, it is due again: at the first time ahead that is whole periods after its due
+pub data Expires (time : ℕ) (t u : Timer) : Type 0 where
+  once : t .«period_ms» ≡ 0 → u ≡ timerWith t (u .signaled) false (t .due) → Expires time t u
+  again : (n : ℕ) → (t .«period_ms» ≡ 0 → ⊥) → time < t .due + n * (10000 * t .«period_ms») → t .due + n * (10000 * t .«period_ms») ≤ time + 10000 * t .«period_ms»
+      → u ≡ timerWith t (u .signaled) true (t .due + n * (10000 * t .«period_ms»)) → Expires time t u
+
 -- ---- the calls that run a wake pass
 
 pub data RunsPass (c : Call) : Type 0 where
@@ -108,6 +134,9 @@ pub data RunsPass (c : Call) : Type 0 where
   release-mutex : (key : ℕ) → c ≡ ReleaseMutex key → RunsPass c
   terminate : (status : ℕ) → c ≡ Terminate status → RunsPass c
   advance-to : (time : ℕ) → c ≡ AdvanceTo time → RunsPass c
+
+abbrev pub Advances : Call → Type 0
+Advances c = (time : ℕ) × (c ≡ AdvanceTo time)
 
 -- one of them, `a` before and `b` after
 pub record WakePass (a b : Readings) (c : Call) : Type 0 where
@@ -124,10 +153,15 @@ pub record WakePass (a b : Readings) (c : Call) : Type 0 where
   pub same-timer : (address : ℕ) → (Freed a c (timerNamed address) → ⊥) → Untaken a b (timerNamed address) → b (call.TimerAt address) ≡ a (call.TimerAt address)
   -- nothing else becomes available: no other thread exits, no other mutex is released
   pub nothing-else : (n : Named) → Available b n → Available a n ⊎ Freed a c n
-  -- of an event the signal alone may change, and of a timer that does not expire; an expired one stays auto-reset or not
+  -- of an event the signal alone may change, and of a timer that does not expire; a timer that is due expires
   pub only-signal : (key : ℕ) (e : Event) → a (call.EventState key) ≡ EventIs e → (x : Bool) × (b (call.EventState key) ≡ EventIs (record { key = e .key; manual = e .manual; signaled = x }))
   pub timer-stays : (address : ℕ) (t : Timer) → a (call.TimerAt address) ≡ TimerIs t
-      → (u : Timer) × (b (call.TimerAt address) ≡ TimerIs u) × (u .«manual_reset» ≡ t .«manual_reset») × ((Freed a c (timerNamed address) → ⊥) → u ≡ withSignal t (u .signaled))
+      → (u : Timer) × (b (call.TimerAt address) ≡ TimerIs u) × ((Freed a c (timerNamed address) → ⊥) → u ≡ timerWith t (u .signaled) (t .inserted) (t .due))
+      × ((time : ℕ) → c ≡ AdvanceTo time → t .inserted ≡ true → t .due ≤ time → Expires time t u)
+  -- only an advance touches DPCs
+  pub same-dpc : Advances c ⊎ ((address : ℕ) → b (call.DpcAt address) ≡ a (call.DpcAt address))
+  pub same-queue : Advances c ⊎ ((k : ℕ) → b (call.QueuedDpcs k) ≡ a (call.QueuedDpcs k))
+  pub same-counters : Advances c ⊎ (b call.DpcCounters ≡ a call.DpcCounters)
   -- what the call makes available goes to who waits for it, unless a thread with a lesser wait sequence has taken it
   pub goes-any : (i : ℕ) (y : Wait) → Waits a i y → y .all ≡ false → (k : ℕ) (n : Named) → nth (y .objects) k ≡ some n → Freed a c n
       → ((m : ℕ) × (m ≤ k) × Woken a b i y m) ⊎ TakenFirst a b (y .sequence) n

@@ -39,20 +39,20 @@ pub record RemoveReports (before after : State) (address : ℕ) (answer : Answer
 
 -- ---- KeWaitForMultipleObjects
 
--- the page of KeWaitForMultipleObjects speaks of objects in the signaled state: a mutex that nobody owns, an event or a timer that is signaled, a thread that has ended
+-- the page of KeWaitForMultipleObjects speaks of objects in the signaled state: a mutex that nobody owns, an event or a timer that is signaled
 abbrev pub isSignaled : Object → Bool
 isSignaled (mutex m) = eqb (m .owner) 0
 isSignaled (event e) = e .signaled
 isSignaled (timer t) = t .signaled
 
--- the same of a listed object
+-- the page of KeWaitForMultipleObjects, of an object of its Object array: the same, or a thread that has ended
 abbrev pub signaledNow : State → Named → Bool
 signaledNow s n =
     cond (eqb (n .kind) 3)
     (cond (isThread (s .dispatcher) (n .key)) (hasExited (statusOf (s .dispatcher) (n .key))) false)
     (given (namedIn (s .dispatcher .objects) n) false isSignaled)
 
--- the lowest index of that page: the object at position `i` is signaled and none before it is
+-- the lowest index that the page of KeWaitForMultipleObjects reports for WaitAny: the object at position `i` is signaled and none before it is
 pub record LowestSignaled (s : State) (ns : List Named) (i : ℕ) (n : Named) : Type 0 where
   pub at : nth ns i ≡ some n
   pub signaled : signaledNow s n ≡ true
@@ -79,32 +79,32 @@ afterWait id (timer t) =
       initialization = t .initialization;
     })
 
--- the same page: the thread has taken the object; a thread that ended stays so
+-- the page of KeWaitForMultipleObjects: the thread has taken the object; a thread that ended stays so
 abbrev pub TakenBy : ℕ → List Object → List Object → Named → Type 0
 TakenBy id before after n = (o : Object) → namedIn before n ≡ some o → objectAt after (n .key) ≡ some (afterWait id o)
 
--- the page's Object array names the object with this key; a thread is no object of the table, and its number is no key
+-- the Object array of KeWaitForMultipleObjects names the object with this key; a thread is no object of the table, and its number is no key
 abbrev pub NamesObject : Named → ℕ → Type 0
 NamesObject n k = (k ≡ n .key) × (n .kind ≡ 3 → ⊥)
 
--- the page's WaitAny: the lowest index among the objects that are signaled, which alone is taken
+-- the page of KeWaitForMultipleObjects, WaitAny: the lowest index among the objects that are signaled, which alone is taken
 pub record WaitAny (before after : State) (id : ℕ) (ns : List Named) (i : ℕ) : Type 0 where
   pub which : Named
   pub lowest : LowestSignaled before ns i which
   pub taken : TakenBy id (before .dispatcher .objects) (after .dispatcher .objects) which
   pub alone : (k : ℕ) → (NamesObject which k → ⊥) → objectAt (after .dispatcher .objects) k ≡ objectAt (before .dispatcher .objects) k
 
--- the page's WaitAll: success once every one is, all taken together
+-- the page of KeWaitForMultipleObjects, WaitAll: success once every one is, all taken together
 pub record WaitAll (before after : State) (id : ℕ) (ns : List Named) : Type 0 where
   pub every : (n : Named) → Mem n ns → signaledNow before n ≡ true
   pub taken : (n : Named) → Mem n ns → TakenBy id (before .dispatcher .objects) (after .dispatcher .objects) n
   pub others : (k : ℕ) → ((n : Named) → Mem n ns → NamesObject n k → ⊥) → objectAt (after .dispatcher .objects) k ≡ objectAt (before .dispatcher .objects) k
 
--- the listed objects satisfy the wait, as that page has it: for WaitAny one of them is signaled, for WaitAll every one is
+-- the listed objects satisfy the wait, as the page of KeWaitForMultipleObjects has it: for WaitAny one of them is signaled, for WaitAll every one is
 abbrev pub isSatisfied : State → List Named → Bool → Bool
 isSatisfied s ns all = cond all (every (signaledNow s) ns) (any (signaledNow s) ns)
 
--- the page's Timeout is zero or reached: its end is now or past; a wait without one has no end
+-- the page of KeWaitForMultipleObjects, its Timeout is zero or reached: its end is now or past; a wait without one has no end
 abbrev pub timeoutOver : State → Option ℕ → Bool
 timeoutOver s none = false
 timeoutOver s (some end) = leb end (s .now)
