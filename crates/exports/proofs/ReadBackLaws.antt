@@ -1,12 +1,12 @@
--- An exported answer reads back: the number that a call gives and the words of its output tell its answer, so no two answers are told alike.
-use Prim.Native.Nat.{ℕ, zero, suc, _≤_}
+-- An exported answer reads back: the number that a call gives and the words of its output tell its answer, so no two answers are told alike. What else a call gives is the call's.
+use Prim.Native.Nat.{ℕ, zero, suc, _≤_, _<_}
 use mathlib.Core.Bool.{Bool, true, false, cond}
 use mathlib.Core.Path.{_≡_, refl, sym, ap, _∙_}
 use mathlib.Core.List.{List, [], _∷_}
 use native.Mathlib.Omega.{arith}
 use lib.Dec.{eqb}
 use lib.ListN.{length, getD}
-use borrow.Author.Tests.{eqb-true, eqb-false, le-ltb}
+use borrow.Author.Tests.{eqb-true, eqb-false, lt-ltb, le-ltb}
 use Rattle.images.specs.declared.Timer.{Timer}
 use Rattle.images.specs.declared.Dpc.{Dpc}
 use Rattle.images.specs.declared.DpcWork.{DpcWork}
@@ -14,8 +14,11 @@ use Rattle.images.specs.declared.DpcPhase.{DpcPhase}
 use Rattle.images.specs.declared.DpcPhase.the-variants as phase
 use Rattle.images.specs.declared.DpcOrigin.{DpcOrigin}
 use Rattle.images.specs.declared.DpcOrigin.the-variants as origin
-use Rattle.images.specs.Place.{architectureNumber, architectureOf, backingKind, backingBase, backingSize, backingMapped, backingOf}
-use Rattle.images.proofs.PlaceLaws.{architecture-back, backing-back}
+use Rattle.arch.specs.declared.Architecture.{Architecture}
+use Rattle.arch.specs.declared.Architecture.the-variants.{X64, X86}
+use Rattle.images.specs.declared.TimerBacking.{TimerBacking}
+use Rattle.images.specs.declared.TimerBacking.the-variants.{Image, NonpagedPool}
+use Rattle.images.specs.Place.{architectureNumber, backingKind, backingBase, backingSize, backingMapped}
 use Rattle.answers.specs.Outcome.{Outcome, bit}
 use Rattle.answers.specs.declared.Answer.{Answer}
 use Rattle.answers.specs.declared.Answer.the-variants as answer
@@ -36,10 +39,10 @@ use Rattle.calls.specs.Called.{called}
 use Rattle.calls.specs.Images.{Imaged}
 use Rattle.calls.specs.Guard.{Kind, Code, refusing}
 use Rattle.calls.specs.Guard as kind
-use Rattle.exports.specs.SchedulerAnswer.{truth, tagged, valued, evented, answerIn, refusalOf, changedBy, dispatchedBy}
+use Rattle.exports.specs.SchedulerAnswer.{tagged, valued, evented, answerIn, refusalOf, changedBy, dispatchedBy}
 use Rattle.exports.specs.RecordAnswer.{locatedIn, stateIn, settingIn, timerIn, originIn, workIn, busyIn, phaseIn, dpcIn, startedIn, countersIn, pairIn, waitIn, threadIn, workRefusal, workAnswerIn, refusalAs, answerAs}
 use Rattle.exports.specs.RecordCall.{room, readBy, startedBy, imagedBy}
-use Rattle.exports.specs.ReadBack.{answerTold, timerFrom, originFrom, workFrom, phaseFrom, dpcFrom, countersFrom, threadFrom, placeFrom, toldAs, readFrom, startedFrom}
+use Rattle.exports.specs.ReadBack.{flagFrom, answerTold, architectureFrom, isArchitecture, backingFrom, timerFrom, originFrom, workFrom, phaseFrom, dpcFrom, countersFrom, threadFrom, placeFrom, toldAs, readFrom, startedFrom}
 
 -- what is said of any `n` words and a rest holds of a list of `n` words or more
 abbrev OfWords : ℕ → (List ℕ → Type 0) → Type 0
@@ -51,17 +54,31 @@ of-words zero P f l h = f l
 of-words (suc n) P f [] h = absurd (omega arith)
 of-words (suc n) P f (x ∷ l) h = of-words n (λ (l : List ℕ). P (x ∷ l)) (f x) l (omega arith)
 
-bit-back : (b : Bool) → truth (bit b) ≡ b
+bit-back : (b : Bool) → flagFrom (bit b) ≡ b
 bit-back true = refl
 bit-back false = refl
 
 -- ---- records
 
+architecture-known : (a : Architecture) → isArchitecture (architectureNumber a) ≡ true
+architecture-known X64 = refl
+architecture-known X86 = refl
+
+architecture-back : (a : Architecture) → architectureFrom (architectureNumber a) ≡ a
+unfolding architectureFrom
+architecture-back X64 = refl
+architecture-back X86 = refl
+
+backing-back : (b : TimerBacking) → backingFrom (backingKind b) (backingBase b) (backingSize b) (backingMapped b) ≡ b
+unfolding backingFrom
+backing-back (Image base size) = refl
+backing-back (NonpagedPool base requested mapped) = refl
+
 timer-back : (out : List ℕ) (t : Timer) → 16 ≤ length out → readFrom kind.timers 0 (timerIn out t) ≡ timer.Timer t
 unfolding readFrom toldAs timerFrom timerIn settingIn stateIn locatedIn
 timer-back out t =
     of-words 16 (λ (l : List ℕ). readFrom kind.timers 0 (timerIn l t) ≡ timer.Timer t)
-    (λ x0 x1 x2 x3 x4 x5 x6 x7 x8 x9 x10 x11 x12 x13 x14 x15 rest. λ i. timer.Timer (record {
+    (λ x0 x1 x2 x3 x4 x5 x6 x7 x8 x9 x10 x11 x12 x13 x14 x15 rest. simp (architecture-known (t .architecture)) (λ i. timer.Timer (record {
       address = t .address;
       architecture = architecture-back (t .architecture) i;
       backing = backing-back (t .backing) i;
@@ -74,7 +91,7 @@ timer-back out t =
       absolute = bit-back (t .absolute) i;
       «arm_generation» = t .«arm_generation»;
       initialization = t .initialization;
-    })) out
+    }))) out
 
 -- work from word 1 on, and from word 10 on of a DPC's
 started-back : (out : List ℕ) (w : DpcWork) → 11 ≤ length out → startedFrom 0 (startedIn out w) ≡ work.Work w
@@ -141,9 +158,10 @@ module _ (d : Dpc) (rest : List ℕ) (h : 11 ≤ length rest) where
   written-back =
       let (l, e) = phase-keeps 15 (d .address) (architectureNumber (d .architecture)) (backingKind (d .backing)) (backingBase (d .backing)) (backingSize (d .backing)) (backingMapped (d .backing)) (d .routine) (d .context) rest (d .phase) in
       let tag : getD (phaseIn before (d .phase)) 0 0 ≡ 15 = ap (λ (l : List ℕ). getD l 0 0) e in
-      let place : backingOf (getD (phaseIn before (d .phase)) 3 0) (getD (phaseIn before (d .phase)) 4 0) (getD (phaseIn before (d .phase)) 5 0) (getD (phaseIn before (d .phase)) 6 0) ≡ d .backing =
-      ap (λ (l : List ℕ). backingOf (getD l 3 0) (getD l 4 0) (getD l 5 0) (getD l 6 0)) e ∙ backing-back (d .backing) in
-      let width : architectureOf (getD (phaseIn before (d .phase)) 2 0) ≡ d .architecture = ap (λ (l : List ℕ). architectureOf (getD l 2 0)) e ∙ architecture-back (d .architecture) in
+      let place : backingFrom (getD (phaseIn before (d .phase)) 3 0) (getD (phaseIn before (d .phase)) 4 0) (getD (phaseIn before (d .phase)) 5 0) (getD (phaseIn before (d .phase)) 6 0) ≡ d .backing =
+      ap (λ (l : List ℕ). backingFrom (getD l 3 0) (getD l 4 0) (getD l 5 0) (getD l 6 0)) e ∙ backing-back (d .backing) in
+      let width : architectureFrom (getD (phaseIn before (d .phase)) 2 0) ≡ d .architecture = ap (λ (l : List ℕ). architectureFrom (getD l 2 0)) e ∙ architecture-back (d .architecture) in
+      let known : isArchitecture (getD (phaseIn before (d .phase)) 2 0) ≡ true = ap (λ (l : List ℕ). isArchitecture (getD l 2 0)) e ∙ architecture-known (d .architecture) in
       let told : dpcFrom (phaseIn before (d .phase)) ≡ d =
       λ i. record {
         address = getD (e i) 1 0;
@@ -153,7 +171,7 @@ module _ (d : Dpc) (rest : List ℕ) (h : 11 ≤ length rest) where
         context = getD (e i) 8 0;
         phase = phase-back before (d .phase) (omega arith) i;
       } in
-      simp tag (ap dpc.Dpc told)
+      simp (tag, known) (ap dpc.Dpc told)
 
 dpc-back : (out : List ℕ) (d : Dpc) → 20 ≤ length out → readFrom kind.dpcs 0 (dpcIn out d) ≡ dpc.Dpc d
 unfolding dpcIn locatedIn before
@@ -281,7 +299,7 @@ pub started-read-back : (out : List ℕ) (a : WorkAnswer) → 24 ≤ length out 
 started-read-back out (work.Work w) h n = started-back out w (omega arith)
 started-read-back out (work.Refused m) h n = unfold startedFrom in go (eqb m 0) refl
   where
-    go : (b : Bool) → eqb m 0 ≡ b → cond b (work.Work (workFrom out 1)) (work.Refused m) ≡ work.Refused m
+    go : (b : Bool) → eqb m 0 ≡ b → cond b (cond (eqb (getD out 0 0) 16) (work.Work (workFrom out 1)) (work.Refused 0)) (work.Refused m) ≡ work.Refused m
     go true e = absurd (n (ap work.Refused (eqb-true m 0 e)))
     go false e = refl
 
@@ -313,3 +331,61 @@ module _ (out : List ℕ) where
       (d .answer ≡ answer.Refused 0 → ⊥) → readFrom kind.plain (dispatchedBy w waiting out .number) (dispatchedBy w waiting out .output) ≡ d .answer
   unfolding dispatchedBy
   dispatching-tells w waiting h n = simp (le-ltb (length out) 4 h) (read-back kind.plain out (called w (call.Dispatch (length waiting)) waiting .answer) h n)
+
+  -- a read leaves the words as they are
+  pub reading-words : (k : Kind) (w : List ℕ) (a : Code k) → room k ≤ length out → readBy k w out a .words ≡ w
+  unfolding readBy
+  reading-words k w a h = simp (le-ltb (length out) (room k) h)
+
+  -- the words after a call that changes them are the call's
+  pub changing-words : (w : List ℕ) (o : Outcome) → 4 ≤ length out → changedBy w out o .words ≡ o .words
+  unfolding changedBy
+  changing-words w o h = simp (le-ltb (length out) 4 h)
+
+  -- the words after `start_dpc` are the call's
+  pub starting-words : (w : List ℕ) (s : Started) → 24 ≤ length out → startedBy w out s .words ≡ s .words
+  unfolding startedBy
+  starting-words w s h = simp (le-ltb (length out) 24 h)
+
+  -- the bytes of an image are the call's
+  pub imaging-bytes : (bytes : List ℕ) (i : Imaged) → 4 ≤ length out → imagedBy bytes out i .bytes ≡ i .output
+  unfolding imagedBy
+  imaging-bytes bytes i h = simp (le-ltb (length out) 4 h)
+
+  -- the words after a dispatch, and the waiting threads' numbers, are the call's
+  pub dispatching-words : (w waiting : List ℕ) → 4 ≤ length out → let d = called w (call.Dispatch (length waiting)) waiting in
+      (dispatchedBy w waiting out .words ≡ d .words) × (dispatchedBy w waiting out .waiting ≡ d .output)
+  unfolding dispatchedBy
+  dispatching-words w waiting h = simp (le-ltb (length out) 4 h) (refl, refl)
+
+  -- ---- an output that is too short
+
+  -- a read is refused with 27; the words and the output are as they were
+  pub reading-short : (k : Kind) (w : List ℕ) (a : Code k) → length out < room k
+      → (readBy k w out a .number ≡ 27) × (readBy k w out a .words ≡ w) × (readBy k w out a .output ≡ out)
+  unfolding readBy
+  reading-short k w a h = simp (lt-ltb (length out) (room k) h) (refl, refl, refl)
+
+  -- so is a call that changes the words
+  pub changing-short : (w : List ℕ) (o : Outcome) → length out < 4
+      → (changedBy w out o .number ≡ 27) × (changedBy w out o .words ≡ w) × (changedBy w out o .output ≡ out)
+  unfolding changedBy
+  changing-short w o h = simp (lt-ltb (length out) 4 h) (refl, refl, refl)
+
+  -- so is `start_dpc`
+  pub starting-short : (w : List ℕ) (s : Started) → length out < 24
+      → (startedBy w out s .number ≡ 27) × (startedBy w out s .words ≡ w) × (startedBy w out s .output ≡ out)
+  unfolding startedBy
+  starting-short w s h = simp (lt-ltb (length out) 24 h) (refl, refl, refl)
+
+  -- so is an image; the bytes and the output are as they were
+  pub imaging-short : (bytes : List ℕ) (i : Imaged) → length out < 4
+      → (imagedBy bytes out i .number ≡ 27) × (imagedBy bytes out i .bytes ≡ bytes) × (imagedBy bytes out i .output ≡ out)
+  unfolding imagedBy
+  imaging-short bytes i h = simp (lt-ltb (length out) 4 h) (refl, refl, refl)
+
+  -- so is a dispatch; the words, the waiting threads' numbers and the output are as they were
+  pub dispatching-short : (w waiting : List ℕ) → length out < 4
+      → (dispatchedBy w waiting out .number ≡ 27) × (dispatchedBy w waiting out .words ≡ w) × (dispatchedBy w waiting out .waiting ≡ waiting) × (dispatchedBy w waiting out .output ≡ out)
+  unfolding dispatchedBy
+  dispatching-short w waiting h = simp (lt-ltb (length out) 4 h) (refl, refl, refl, refl)
