@@ -1,3 +1,4 @@
 pub mod OffsetLaws
 pub mod WordLaws
 pub mod PassingLaws
+pub mod ReadLaws
