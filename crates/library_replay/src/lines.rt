@@ -1,8 +1,8 @@
 // Bytes to lines, and a line to the call that it names.
-use super::named;
-use super::reads;
-use super::show;
 use libc::STDOUT_FILENO;
+use replay_calls::named;
+use replay_state::reads;
+use replay_state::show;
 use script_lex::lex;
 
 // How many bytes of the present line have come, its number, how often its call is made, and how many mutexes are read.

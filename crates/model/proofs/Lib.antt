@@ -1,4 +1,3 @@
-pub mod Samples
 pub mod ListLaws
 pub mod TableLaws
 pub mod ThreadLaws

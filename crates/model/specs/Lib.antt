@@ -11,7 +11,6 @@ pub mod Refusal
 pub mod Reads
 pub mod Step
 pub mod Start
-pub mod Samples
 pub mod Valid
 pub mod Choice
 pub mod Wdk

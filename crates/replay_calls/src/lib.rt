@@ -1,0 +1,2 @@
+// The calls of stored lists, by the exported functions.
+pub mod named;

@@ -1,0 +1,62 @@
+use Prim.Native.Nat.{_-_, _≤_}
+use lib.ListN.{length}
+use borrow.Author.Needs.{needs}
+use Rattle.replay_state.proofs.show.image.Statement.{statement}
+use Rattle.replay_state.proofs.show.image.Tie as tie
+
+abbrev Inv-loop : tie.InvT-loop
+Inv-loop bytes size i₀ i = i ≤ length bytes
+
+abbrev μ-loop : tie.MeasureT-loop
+μ-loop bytes size i₀ i = length bytes - i
+
+slice-aggregate-write-all : tie.Need-slice-aggregate-write-all Inv-loop μ-loop
+slice-aggregate-write-all c = search needs
+
+write-all-requires : tie.Need-write-all-requires Inv-loop μ-loop
+write-all-requires c κs = search needs
+
+loop-holds : tie.Need-loop-holds Inv-loop μ-loop
+loop-holds c = search needs
+
+returns : tie.Need-returns Inv-loop μ-loop
+returns c = search needs
+
+shared-slice-read-wide : tie.Need-shared-slice-read-wide Inv-loop μ-loop
+shared-slice-read-wide c = search needs
+
+wide-requires : tie.Need-wide-requires Inv-loop μ-loop
+wide-requires c κs = search needs
+
+print-hex-requires : tie.Need-print-hex-requires Inv-loop μ-loop
+print-hex-requires c κs = search needs
+
+add-i : tie.Need-add-i Inv-loop μ-loop
+add-i c = search needs
+
+loop-less : tie.Need-loop-less Inv-loop μ-loop
+loop-less c = search needs
+
+loop-again : tie.Need-loop-again Inv-loop μ-loop
+loop-again c = search needs
+
+returns-2 : tie.Need-returns-2 Inv-loop μ-loop
+returns-2 c = search needs
+
+pub image-spec : {M : Type 1} → statement M
+image-spec =
+    tie.close
+    (tie.spec
+    Inv-loop
+    μ-loop
+    slice-aggregate-write-all
+    write-all-requires
+    loop-holds
+    returns
+    shared-slice-read-wide
+    wide-requires
+    print-hex-requires
+    add-i
+    loop-less
+    loop-again
+    returns-2)
