@@ -1,4 +1,6 @@
+pub mod Speaks
 pub mod Script
 pub mod Lines
+pub mod WaitList
 pub mod Theorem
 pub mod Example

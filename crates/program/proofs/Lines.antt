@@ -162,16 +162,21 @@ location-ok ws = go (numberOf most (first ws)) (architectureOf (first (others ws
 -- ---- commands
 
 -- whatever numbers stand in the list, the call that the command means has arguments that fit
-record Ok (c : Command) : Type 0 where
+record Fit (c : Command) : Type 0 where
   fits : (l : List ℕ) → U64s l → AskedFits (asked l c)
+
+-- and, but for a wait, it is the same call
+pub record Ok (c : Command) : Type 0 where
+  pub fits : (l : List ℕ) → U64s l → AskedFits (asked l c)
+  pub alike : (l m : List ℕ) → asked l c ≡ asked m c
 
 either : (b : Bool) (x y : Command) → Ok x → Ok y → Ok (cond b x y)
 either true x y h k = h
 either false x y h k = k
 
-unread : Ok command.Unread
+pub unread : Ok command.Unread
 unfolding asked
-unread = record { fits = λ l u. tt }
+unread = record { fits = λ l u. tt; alike = λ l m. refl }
 
 alone : (c : Command) (ws : List (List ℕ)) → Ok c → Ok (bareLine c ws)
 unfolding bareLine
@@ -211,25 +216,25 @@ three-words f ws h = with-three f (threeOf ws) (three-ok ws) h
 
 manual-ok : (address : ℕ) (a : Architecture) (b : TimerBacking) → address ≤ most → BackingFits b → (f : Flag) (ws : List (List ℕ)) → Ok (manualOf address a b f ws)
 unfolding manualOf asked
-manual-ok address a b h k (flag.Read manual) ws = alone (command.InitializeTimer address a b manual) ws (record { fits = λ l u. (h, k) })
+manual-ok address a b h k (flag.Read manual) ws = alone (command.InitializeTimer address a b manual) ws (record { fits = λ l u. (h, k); alike = λ l m. refl })
 manual-ok address a b h k flag.Unread ws = unread
 
 set-ok : (address due : ℕ) → address ≤ most → due ≤ most → (f : Flag) (x : Signed) (y : Number) → SignedOk x → NumberOk most y → Ok (setOf address due f x y)
 unfolding setOf asked
-set-ok address due h k (flag.Read absolute) (signed.Read period) (number.Read dpc) p q = record { fits = λ l u. (h, k, p, q) }
+set-ok address due h k (flag.Read absolute) (signed.Read period) (number.Read dpc) p q = record { fits = λ l u. (h, k, p, q); alike = λ l m. refl }
 set-ok address due h k (flag.Read absolute) (signed.Read period) number.Unread p q = unread
 set-ok address due h k (flag.Read absolute) signed.Unread y p q = unread
 set-ok address due h k flag.Unread x y p q = unread
 
 new-ok : (utc uptime : ℕ) (x : Signed) (y : Number) → Ok (newOf utc uptime x y)
 unfolding newOf asked
-new-ok utc uptime (signed.Read offset) (number.Read mhz) = record { fits = λ l u. tt }
+new-ok utc uptime (signed.Read offset) (number.Read mhz) = record { fits = λ l u. tt; alike = λ l m. refl }
 new-ok utc uptime (signed.Read offset) number.Unread = unread
 new-ok utc uptime signed.Unread y = unread
 
 flags-ok : (key : ℕ) → key ≤ most → (x y : Flag) (ws : List (List ℕ)) → Ok (withFlags key x y ws)
 unfolding withFlags asked
-flags-ok key h (flag.Read manual) (flag.Read signaled) ws = alone (command.Event key manual signaled) ws (record { fits = λ l u. h })
+flags-ok key h (flag.Read manual) (flag.Read signaled) ws = alone (command.Event key manual signaled) ws (record { fits = λ l u. h; alike = λ l m. refl })
 flags-ok key h (flag.Read manual) flag.Unread ws = unread
 flags-ok key h flag.Unread y ws = unread
 
@@ -238,25 +243,25 @@ flags-ok key h flag.Unread y ws = unread
 dpc-work-ok : (ws : List (List ℕ)) → Ok (dpcWorkLine ws)
 unfolding dpcWorkLine asked
 dpc-work-ok ws =
-    either (same (first ws) name.insertQueueDpc) _ _ (three-words command.InsertQueueDpc (others ws) (λ k m n a b c. record { fits = λ l u. (a, b, c) }))
-    (either (same (first ws) name.removeQueueDpc) _ _ (one command.RemoveQueueDpc most (others ws) (λ n a. record { fits = λ l u. a }))
-    (either (same (first ws) name.startDpc) _ _ (one command.StartDpc most (others ws) (λ n a. record { fits = λ l u. a }))
-    (either (same (first ws) name.returnedDpc) _ _ (two-words command.ReturnedDpc most most (others ws) (λ m n a b. record { fits = λ l u. (a, b) }))
-    (either (same (first ws) name.restoredDpc) _ _ (two-words command.RestoredDpc most most (others ws) (λ m n a b. record { fits = λ l u. (a, b) })) unread))))
+    either (same (first ws) name.insertQueueDpc) _ _ (three-words command.InsertQueueDpc (others ws) (λ k m n a b c. record { fits = λ l u. (a, b, c); alike = λ l m. refl }))
+    (either (same (first ws) name.removeQueueDpc) _ _ (one command.RemoveQueueDpc most (others ws) (λ n a. record { fits = λ l u. a; alike = λ l m. refl }))
+    (either (same (first ws) name.startDpc) _ _ (one command.StartDpc most (others ws) (λ n a. record { fits = λ l u. a; alike = λ l m. refl }))
+    (either (same (first ws) name.returnedDpc) _ _ (two-words command.ReturnedDpc most most (others ws) (λ m n a b. record { fits = λ l u. (a, b); alike = λ l m. refl }))
+    (either (same (first ws) name.restoredDpc) _ _ (two-words command.RestoredDpc most most (others ws) (λ m n a b. record { fits = λ l u. (a, b); alike = λ l m. refl })) unread))))
 
 initialize-dpc-ok : (ws : List (List ℕ)) → Ok (initializeDpcLine ws)
 unfolding initializeDpcLine routineBehind asked
 initialize-dpc-ok ws =
     with-location (λ address a b. routineBehind address a b (behindLocation ws)) (locationOf ws) (location-ok ws)
-    (λ address a b h k. two-words (command.InitializeDpc address a b) most most (behindLocation ws) (λ m n p q. record { fits = λ l u. (h, k, p, q) }))
+    (λ address a b h k. two-words (command.InitializeDpc address a b) most most (behindLocation ws) (λ m n p q. record { fits = λ l u. (h, k, p, q); alike = λ l m. refl }))
 
 dpc-ok : (ws : List (List ℕ)) → Ok (dpcLine ws)
 unfolding dpcLine asked
 dpc-ok ws =
     either (same (first ws) name.initializeDpc) _ _ (initialize-dpc-ok (others ws))
-    (either (same (first ws) name.dpcInitializations) _ _ (alone command.DpcInitializations (others ws) (record { fits = λ l u. tt }))
-    (either (same (first ws) name.configureDpcDispatch) _ _ (two-words command.ConfigureDpcDispatch most most (others ws) (λ m n a b. record { fits = λ l u. (a, b) }))
-    (either (same (first ws) name.queuedDpcs) _ _ (one command.QueuedDpcs most (others ws) (λ n a. record { fits = λ l u. tt })) (dpc-work-ok ws))))
+    (either (same (first ws) name.dpcInitializations) _ _ (alone command.DpcInitializations (others ws) (record { fits = λ l u. tt; alike = λ l m. refl }))
+    (either (same (first ws) name.configureDpcDispatch) _ _ (two-words command.ConfigureDpcDispatch most most (others ws) (λ m n a b. record { fits = λ l u. (a, b); alike = λ l m. refl }))
+    (either (same (first ws) name.queuedDpcs) _ _ (one command.QueuedDpcs most (others ws) (λ n a. record { fits = λ l u. tt; alike = λ l m. refl })) (dpc-work-ok ws))))
 
 -- ---- timers
 
@@ -277,18 +282,18 @@ set-timer-ok ws =
 timer-memory-ok : (ws : List (List ℕ)) → Ok (timerMemoryLine ws)
 unfolding timerMemoryLine asked
 timer-memory-ok ws =
-    either (same (first ws) name.timerReadOverlap) _ _ (two-words command.TimerReadOverlap most most (others ws) (λ m n a b. record { fits = λ l u. tt }))
-    (either (same (first ws) name.timerMetadataOverlap) _ _ (two-words command.TimerMetadataOverlap most most (others ws) (λ m n a b. record { fits = λ l u. tt }))
-    (either (same (first ws) name.requireTimerRelease) _ _ (two-words command.RequireTimerRelease most most (others ws) (λ m n a b. record { fits = λ l u. tt }))
-    (either (same (first ws) name.retireTimerBacking) _ _ (two-words command.RetireTimerBacking most most (others ws) (λ m n a b. record { fits = λ l u. (a, b) })) (dpc-ok ws))))
+    either (same (first ws) name.timerReadOverlap) _ _ (two-words command.TimerReadOverlap most most (others ws) (λ m n a b. record { fits = λ l u. tt; alike = λ l m. refl }))
+    (either (same (first ws) name.timerMetadataOverlap) _ _ (two-words command.TimerMetadataOverlap most most (others ws) (λ m n a b. record { fits = λ l u. tt; alike = λ l m. refl }))
+    (either (same (first ws) name.requireTimerRelease) _ _ (two-words command.RequireTimerRelease most most (others ws) (λ m n a b. record { fits = λ l u. tt; alike = λ l m. refl }))
+    (either (same (first ws) name.retireTimerBacking) _ _ (two-words command.RetireTimerBacking most most (others ws) (λ m n a b. record { fits = λ l u. (a, b); alike = λ l m. refl })) (dpc-ok ws))))
 
 timer-ok : (ws : List (List ℕ)) → Ok (timerLine ws)
 unfolding timerLine asked
 timer-ok ws =
     either (same (first ws) name.initializeTimer) _ _ (initialize-timer-ok (others ws))
     (either (same (first ws) name.setTimer) _ _ (set-timer-ok (others ws))
-    (either (same (first ws) name.cancelTimer) _ _ (one command.CancelTimer most (others ws) (λ n a. record { fits = λ l u. a }))
-    (either (same (first ws) name.timerInitializations) _ _ (alone command.TimerInitializations (others ws) (record { fits = λ l u. tt })) (timer-memory-ok ws))))
+    (either (same (first ws) name.cancelTimer) _ _ (one command.CancelTimer most (others ws) (λ n a. record { fits = λ l u. a; alike = λ l m. refl }))
+    (either (same (first ws) name.timerInitializations) _ _ (alone command.TimerInitializations (others ws) (record { fits = λ l u. tt; alike = λ l m. refl })) (timer-memory-ok ws))))
 
 -- ---- the clock: every number of its calls is as it may be
 
@@ -299,50 +304,50 @@ clock-ok ws =
     (with-one _ most (numberOf most (first (others ws))) (number-ok most (first (others ws))) (λ utc h.
     with-one _ most (numberOf most (first (others (others ws)))) (number-ok most (first (others (others ws)))) (λ uptime k.
     new-ok utc uptime (signedOf (first (others (others (others ws))))) (oneOf 4294967295 (others (others (others (others ws))))))))
-    (either (same (first ws) name.instruction) _ _ (alone command.ClockInstruction (others ws) (record { fits = λ l u. tt }))
-    (either (same (first ws) name.flushCycles) _ _ (alone command.ClockFlushCycles (others ws) (record { fits = λ l u. tt }))
-    (either (same (first ws) name.observe) _ _ (alone command.ClockObserve (others ws) (record { fits = λ l u. tt }))
-    (either (same (first ws) name.qpc) _ _ (alone command.ClockQpc (others ws) (record { fits = λ l u. tt }))
-    (either (same (first ws) name.tick64) _ _ (alone command.ClockTick64 (others ws) (record { fits = λ l u. tt }))
-    (either (same (first ws) name.tsc) _ _ (alone command.ClockTsc (others ws) (record { fits = λ l u. tt }))
-    (either (same (first ws) name.advanceMicroseconds) _ _ (one command.ClockAdvanceMicroseconds most (others ws) (λ n a. record { fits = λ l u. tt }))
-    (either (same (first ws) name.advance100ns) _ _ (one command.ClockAdvance100ns most (others ws) (λ n a. record { fits = λ l u. tt }))
-    (either (same (first ws) name.advanceMilliseconds) _ _ (one command.ClockAdvanceMilliseconds 4294967295 (others ws) (λ n a. record { fits = λ l u. tt })) unread)))))))))
+    (either (same (first ws) name.instruction) _ _ (alone command.ClockInstruction (others ws) (record { fits = λ l u. tt; alike = λ l m. refl }))
+    (either (same (first ws) name.flushCycles) _ _ (alone command.ClockFlushCycles (others ws) (record { fits = λ l u. tt; alike = λ l m. refl }))
+    (either (same (first ws) name.observe) _ _ (alone command.ClockObserve (others ws) (record { fits = λ l u. tt; alike = λ l m. refl }))
+    (either (same (first ws) name.qpc) _ _ (alone command.ClockQpc (others ws) (record { fits = λ l u. tt; alike = λ l m. refl }))
+    (either (same (first ws) name.tick64) _ _ (alone command.ClockTick64 (others ws) (record { fits = λ l u. tt; alike = λ l m. refl }))
+    (either (same (first ws) name.tsc) _ _ (alone command.ClockTsc (others ws) (record { fits = λ l u. tt; alike = λ l m. refl }))
+    (either (same (first ws) name.advanceMicroseconds) _ _ (one command.ClockAdvanceMicroseconds most (others ws) (λ n a. record { fits = λ l u. tt; alike = λ l m. refl }))
+    (either (same (first ws) name.advance100ns) _ _ (one command.ClockAdvance100ns most (others ws) (λ n a. record { fits = λ l u. tt; alike = λ l m. refl }))
+    (either (same (first ws) name.advanceMilliseconds) _ _ (one command.ClockAdvanceMilliseconds 4294967295 (others ws) (λ n a. record { fits = λ l u. tt; alike = λ l m. refl })) unread)))))))))
 
 -- ---- threads, events, mutexes
 
 thread-ok : (ws : List (List ℕ)) → Ok (threadLine ws)
 unfolding threadLine asked
 thread-ok ws =
-    either (same (first ws) name.current) _ _ (alone command.Current (others ws) (record { fits = λ l u. tt }))
-    (either (same (first ws) name.priority) _ _ (two-words command.Priority most 255 (others ws) (λ m n a b. record { fits = λ l u. (a, omega arith) }))
-    (either (same (first ws) name.terminate) _ _ (one command.Terminate 4294967295 (others ws) (λ n a. record { fits = λ l u. a }))
-    (either (same (first ws) name.delayUntil) _ _ (two-words command.DelayUntil most 255 (others ws) (λ m n a b. record { fits = λ l u. (a, b) }))
-    (either (same (first ws) name.advanceTo) _ _ (one command.AdvanceTo most (others ws) (λ n a. record { fits = λ l u. a }))
+    either (same (first ws) name.current) _ _ (alone command.Current (others ws) (record { fits = λ l u. tt; alike = λ l m. refl }))
+    (either (same (first ws) name.priority) _ _ (two-words command.Priority most 255 (others ws) (λ m n a b. record { fits = λ l u. (a, omega arith); alike = λ l m. refl }))
+    (either (same (first ws) name.terminate) _ _ (one command.Terminate 4294967295 (others ws) (λ n a. record { fits = λ l u. a; alike = λ l m. refl }))
+    (either (same (first ws) name.delayUntil) _ _ (two-words command.DelayUntil most 255 (others ws) (λ m n a b. record { fits = λ l u. (a, b); alike = λ l m. refl }))
+    (either (same (first ws) name.advanceTo) _ _ (one command.AdvanceTo most (others ws) (λ n a. record { fits = λ l u. a; alike = λ l m. refl }))
     (either (same (first ws) name.clock) _ _ (clock-ok (others ws)) (timer-ok ws))))))
 
 events-ok : (ws : List (List ℕ)) → Ok (eventsLine ws)
 unfolding eventsLine asked
 events-ok ws =
-    either (same (first ws) name.resetEvent) _ _ (one command.ResetEvent most (others ws) (λ n a. record { fits = λ l u. a }))
-    (either (same (first ws) name.requireEventRelease) _ _ (three-words command.RequireEventRelease (others ws) (λ k m n a b c. record { fits = λ l u. tt }))
-    (either (same (first ws) name.retireEventBacking) _ _ (three-words command.RetireEventBacking (others ws) (λ k m n a b c. record { fits = λ l u. (a, b, c) })) (thread-ok ws)))
+    either (same (first ws) name.resetEvent) _ _ (one command.ResetEvent most (others ws) (λ n a. record { fits = λ l u. a; alike = λ l m. refl }))
+    (either (same (first ws) name.requireEventRelease) _ _ (three-words command.RequireEventRelease (others ws) (λ k m n a b c. record { fits = λ l u. tt; alike = λ l m. refl }))
+    (either (same (first ws) name.retireEventBacking) _ _ (three-words command.RetireEventBacking (others ws) (λ k m n a b c. record { fits = λ l u. (a, b, c); alike = λ l m. refl })) (thread-ok ws)))
 
 adopt-ok : (ws : List (List ℕ)) → Ok (adoptLine ws)
 unfolding adoptLine ownedBy asked
 adopt-ok ws =
     with-one _ most (numberOf most (first ws)) (number-ok most (first ws)) (λ key h.
-    either (same (first (others ws)) name.none) _ _ (alone (command.AdoptMutex key false 0) (others (others ws)) (record { fits = λ l u. (h, tt) }))
-    (one (λ owner. command.AdoptMutex key true owner) most (others ws) (λ n a. record { fits = λ l u. (h, a) })))
+    either (same (first (others ws)) name.none) _ _ (alone (command.AdoptMutex key false 0) (others (others ws)) (record { fits = λ l u. (h, tt); alike = λ l m. refl }))
+    (one (λ owner. command.AdoptMutex key true owner) most (others ws) (λ n a. record { fits = λ l u. (h, a); alike = λ l m. refl })))
 
 mutex-ok : (ws : List (List ℕ)) → Ok (mutexLine ws)
 unfolding mutexLine asked
 mutex-ok ws =
-    either (same (first ws) name.initializeMutex) _ _ (one command.InitializeMutex most (others ws) (λ n a. record { fits = λ l u. a }))
+    either (same (first ws) name.initializeMutex) _ _ (one command.InitializeMutex most (others ws) (λ n a. record { fits = λ l u. a; alike = λ l m. refl }))
     (either (same (first ws) name.adoptMutex) _ _ (adopt-ok (others ws))
-    (either (same (first ws) name.mutexOwner) _ _ (one command.MutexOwner most (others ws) (λ n a. record { fits = λ l u. tt }))
-    (either (same (first ws) name.mutexWaiters) _ _ (one command.MutexWaiters most (others ws) (λ n a. record { fits = λ l u. tt }))
-    (either (same (first ws) name.releaseMutex) _ _ (one command.ReleaseMutex most (others ws) (λ n a. record { fits = λ l u. a })) (events-ok ws)))))
+    (either (same (first ws) name.mutexOwner) _ _ (one command.MutexOwner most (others ws) (λ n a. record { fits = λ l u. tt; alike = λ l m. refl }))
+    (either (same (first ws) name.mutexWaiters) _ _ (one command.MutexWaiters most (others ws) (λ n a. record { fits = λ l u. tt; alike = λ l m. refl }))
+    (either (same (first ws) name.releaseMutex) _ _ (one command.ReleaseMutex most (others ws) (λ n a. record { fits = λ l u. a; alike = λ l m. refl })) (events-ok ws)))))
 
 event-ok : (ws : List (List ℕ)) → Ok (eventLine ws)
 unfolding eventLine flagged
@@ -350,15 +355,15 @@ event-ok ws =
     with-one _ most (numberOf most (first ws)) (number-ok most (first ws)) (λ key h.
     flags-ok key h (flagOf (first (others ws))) (flagOf (first (others (others ws)))) (others (others (others ws))))
 
-short-ok : (ws : List (List ℕ)) → Ok (shortLine ws)
+pub short-ok : (ws : List (List ℕ)) → Ok (shortLine ws)
 unfolding shortLine asked
 short-ok ws =
-    either (same (first ws) name.opens) _ _ (one command.Open 255 (others ws) (λ n a. record { fits = λ l u. (omega arith, omega arith, omega arith, omega arith) }))
+    either (same (first ws) name.opens) _ _ (one command.Open 255 (others ws) (λ n a. record { fits = λ l u. (omega arith, omega arith, omega arith, omega arith); alike = λ l m. refl }))
     (either (same (first ws) name.event) _ _ (event-ok (others ws))
-    (either (same (first ws) name.create) _ _ (one command.Create 255 (others ws) (λ n a. record { fits = λ l u. omega arith }))
-    (either (same (first ws) name.dispatch) _ _ (alone command.Dispatch (others ws) (record { fits = λ l u. tt }))
-    (either (same (first ws) name.set) _ _ (one command.Set most (others ws) (λ n a. record { fits = λ l u. a }))
-    (either (same (first ws) name.yield) _ _ (alone command.Yield (others ws) (record { fits = λ l u. tt })) (mutex-ok ws))))))
+    (either (same (first ws) name.create) _ _ (one command.Create 255 (others ws) (λ n a. record { fits = λ l u. omega arith; alike = λ l m. refl }))
+    (either (same (first ws) name.dispatch) _ _ (alone command.Dispatch (others ws) (record { fits = λ l u. tt; alike = λ l m. refl }))
+    (either (same (first ws) name.set) _ _ (one command.Set most (others ws) (λ n a. record { fits = λ l u. a; alike = λ l m. refl }))
+    (either (same (first ws) name.yield) _ _ (alone command.Yield (others ws) (record { fits = λ l u. tt; alike = λ l m. refl })) (mutex-ok ws))))))
 
 -- ---- waits, with the list that their kinds and keys go into
 
@@ -402,7 +407,7 @@ pairs-fit (w ∷ ws) i l u = go (ltb i (length l)) (isRead (itemOf i w)) (pairs-
 
 -- a command that is read, and numbers in the list that fit
 record TakenOk (t : Taken) : Type 0 where
-  command : Ok (t .command)
+  command : Fit (t .command)
   list : U64s (t .list)
 
 taken-either : (b : Bool) (x y : Taken) → TakenOk x → TakenOk y → TakenOk (cond b x y)
@@ -411,15 +416,15 @@ taken-either false x y h k = k
 
 module _ (l : List ℕ) (u : U64s l) where
   no-wait : TakenOk (taken command.Unread l)
-  no-wait = record { command = unread; list = u }
+  no-wait = record { command = record { fits = unread .fits }; list = u }
 
   deadline-fits : (timed : Bool) (deadline : ℕ) → deadline ≤ most → U64? (optional timed deadline)
   deadline-fits true deadline h = h
   deadline-fits false deadline h = tt
 
-  wait-ok : (all timed : Bool) (deadline irql : ℕ) → deadline ≤ most → irql ≤ 255 → (p : Pairs) → Ok (waitCommand all timed deadline irql p)
+  wait-ok : (all timed : Bool) (deadline irql : ℕ) → deadline ≤ most → irql ≤ 255 → (p : Pairs) → Fit (waitCommand all timed deadline irql p)
   unfolding waitCommand asked
-  wait-ok all timed deadline irql h k pairs.Unread = unread
+  wait-ok all timed deadline irql h k pairs.Unread = record { fits = unread .fits }
   wait-ok all timed deadline irql h k (pairs.Count n) = record { fits = λ m v. go m v (ltb (length m) n) }
     where
       go : (m : List ℕ) → U64s m → (b : Bool) → AskedFits (cond b nothing (calls (call.Wait (take n m) all (optional timed deadline) irql) tt))
@@ -452,7 +457,7 @@ module _ (l : List ℕ) (u : U64s l) where
 
   text-ok : (ws : List (List ℕ)) → TakenOk (textLine ws l)
   unfolding textLine
-  text-ok ws = taken-either (same (first ws) name.wait) _ _ (line-ok (others ws)) (record { command = short-ok ws; list = u })
+  text-ok ws = taken-either (same (first ws) name.wait) _ _ (line-ok (others ws)) (record { command = record { fits = short-ok ws .fits }; list = u })
 
   read-ok : (s : List ℕ) → TakenOk (readLine s l)
   unfolding readLine

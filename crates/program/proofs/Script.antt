@@ -1,9 +1,8 @@
--- The program answers what the log says, line by line.
+-- A line on the program and on the log.
 use Prim.Native.Nat.{ℕ, zero, suc, _+_}
 use mathlib.Core.List.{List, [], _∷_}
 use mathlib.Core.Bool.{Bool, true, false, cond}
 use mathlib.Core.Path.{_≡_, refl, sym, ap, _∙_, subst}
-use mathlib.Core.Logic.{inl, inr}
 use native.Mathlib.Decide.{ℕ-discrete}
 use borrow.Author.Tests.{eq-eqb, ne-eqb}
 use lib.Dec.{eqb, ltb}
@@ -17,6 +16,9 @@ use Rattle.clock.specs.declared.Created.{Created}
 use Rattle.clock.specs.declared.Created.the-variants as created-as
 use Rattle.clock.specs.declared.Reading as clock-reading
 use Rattle.clock.specs.declared.Outcome as clock
+use Rattle.clock.specs.declared.Done as clock-done
+use Rattle.clock.specs.declared.Done.the-variants as clock-done-as
+use Rattle.clock.specs.declared.Reading.the-variants as clock-reading-as
 use Rattle.dpc_work.specs.declared.WorkAnswer.{WorkAnswer}
 use Rattle.dpc_work.specs.declared.WorkAnswer.the-variants as work
 use Rattle.words.specs.Layout as at
@@ -25,11 +27,11 @@ use Rattle.threads.specs.Thread.{threadCount}
 use Rattle.dispatcher.specs.Dispatch.{Dispatched, listedIn, listed, listedTo, noted, notedTo, isWaiting}
 use Rattle.dispatcher.specs.TimerDue.{nextTime}
 use Rattle.dispatcher.specs.Dispatched.{dispatched}
+use Rattle.script_lex.specs.declared.command.Command.{Command}
 use Rattle.script_print.specs.Print.{bareAnswer}
 use Rattle.opening.specs.Open as words
 use Rattle.form.specs.Form.{inForm}
 use Rattle.model.specs.State.{State}
-use Rattle.model.specs.Lists.{Mem}
 use Rattle.model.specs.Answer.{Answer, Outcome, gives}
 use Rattle.model.specs.Answer as log
 use Rattle.model.specs.Call.{Call}
@@ -43,7 +45,7 @@ use Rattle.model.proofs.ListLaws.{not-both}
 use Rattle.model.proofs.StepLaws.{valid-step}
 use Rattle.model.proofs.FitsLaws.{numbers-step}
 use Rattle.model.proofs.StartLaws.{first-step, valid-begun, numbers-begun}
-use Rattle.call_answers.specs.Told.{told, toldWork}
+use Rattle.call_answers.specs.Told.{told, toldWith, toldWork}
 use Rattle.calls.specs.Guard as kind
 use Rattle.calls.specs.Called.{Reading, tells, images, Meaning, opens, acts, starts, dispatches, reads, meaning, ReadResult, Result, called}
 use Rattle.calls.specs.Run.{answered, left, answerOf, readTold, wordsOf, LentTo, Lent}
@@ -62,9 +64,8 @@ use Rattle.runner.specs.declared.session.Step.{Step}
 use Rattle.runner.specs.Session as program
 use Rattle.commands.specs.Commands.{Shown, shown, ReadShown, readShown, Asked, nothing, begins, calls, bares, works, dispatching, creates, moves, asks, asked, onWords, sequenceOf, waited}
 use Rattle.runner.specs.Session.{Performed, performedAs, unchanged, answersWith, goneOn, begun, performed, accepts, opensWith, openedBy}
-use Rattle.program.specs.Script.{opening, AskedFits, plain, bare, Logged, unread, byCall, byClock, whenOpen, beginning, whenClosed, logged, logAnswers}
-use Rattle.program.specs.Program as line
-use Rattle.program.specs.Program.{Line, meanings, toldIn, does, answersTo}
+use Rattle.program.specs.Script.{opening, AskedFits, plain, bare, Logged, unread, byCall, byClock, whenOpen, beginning, whenClosed, logged}
+use Rattle.program.proofs.Speaks.{Speaks, told-with, step-speaks, start-speaks, bare-speaks}
 
 -- ---- answers shown as a number alone
 
@@ -113,17 +114,6 @@ shows w (starts f) p r = absurd p
 shows w (dispatches n) p r = absurd p
 shows w (reads r) p a = shows-read w r p a
 
-refused-told : (m : Asked) (out : List ℕ) (n : ℕ) → toldIn m out (answer.Refused n) ≡ log.Refused n
-refused-told nothing out n = refl
-refused-told (begins p) out n = refl
-refused-told (calls c p) out n = refl
-refused-told (bares c p) out n = refl
-refused-told (works address) out n = refl
-refused-told dispatching out n = refl
-refused-told (creates made) out n = refl
-refused-told (moves f) out n = refl
-refused-told (asks f) out n = refl
-
 -- ---- a dispatch keeps the length of its output
 
 length-listed : (m : ℕ) (w out : List ℕ) (id k : ℕ) → length (listedIn m w out id k) ≡ length out
@@ -159,20 +149,20 @@ record Agrees (w : List ℕ) (st : State) : Type 0 where
   valid : Valid st
   numbers : Numbers st
 
-record Stands (w out : List ℕ) (s : Session) (st : State) : Type 0 where
-  long : length w ≡ wordsNeeded 16 64 64
-  room : length out ≡ 16
+pub record Stands (w out : List ℕ) (s : Session) (st : State) : Type 0 where
+  pub long : length w ≡ wordsNeeded 16 64 64
+  pub room : length out ≡ 16
   agrees : s .opened ≡ true → Agrees w st
 
 -- a line on the program and on the log
-record Same (m : Asked) (d : Performed) (l : Logged) : Type 0 where
-  answer : toldIn m (d .waiting) (d .step .answer) ≡ l .answer
-  session : d .step .session ≡ l .session
-  stands : Stands (d .words) (d .waiting) (l .session) (l .state)
+pub record Same (d : Performed) (l : Logged) : Type 0 where
+  pub answer : toldWith (d .waiting) (d .step .answer) ≡ l .answer
+  pub session : d .step .session ≡ l .session
+  pub stands : Stands (d .words) (d .waiting) (l .session) (l .state)
 
 module _ (w out : List ℕ) (s : Session) (st : State) (h : Stands w out s st) where
-  skips : (m : Asked) → Same m (performedAs (unchanged s (answer.Refused 28)) w out) (unread s st)
-  skips m = record { answer = refused-told m out 28; session = refl; stands = h }
+  skips : Same (performedAs (unchanged s (answer.Refused 28)) w out) (unread s st)
+  skips = record { answer = refl; session = refl; stands = h }
 
   -- ---- after an `open`
 
@@ -180,12 +170,12 @@ module _ (w out : List ℕ) (s : Session) (st : State) (h : Stands w out s st) w
     here : Agrees w st
     here = h .agrees open-now
 
-    by-call : (m : Asked) (shown : Answer → Answer) (c : Call) (x : code.Answer) (after : List ℕ) → toldIn m out x ≡ shown (answered w c) → after ≡ left w c
-        → Fits c → Lent (length w) c → Same m (performedAs (unchanged s x) after out) (byCall s shown (step c st))
-    by-call m shown c x after e q fit lent =
+    by-call : (shown : Answer → Answer) (c : Call) (x : code.Answer) (after : List ℕ) → told x ≡ shown (answered w c) → after ≡ left w c
+        → Speaks (shown (step c st .answer)) → Fits c → Lent (length w) c → Same (performedAs (unchanged s x) after out) (byCall s shown (step c st))
+    by-call shown c x after e q speaks fit lent =
         let k = matches w st (here .agree) (here .valid) (here .numbers) c fit lent in
         record {
-          answer = e ∙ ap shown (k .answers);
+          answer = told-with out x _ (e ∙ ap shown (k .answers)) speaks;
           session = refl;
           stands = record {
             long = ap length q ∙ keeps-length w c ∙ h .long;
@@ -198,19 +188,19 @@ module _ (w out : List ℕ) (s : Session) (st : State) (h : Stands w out s st) w
           };
         }
 
-    plainly : (c : Call) (p : Shown (meaning c)) → Fits c → Same (calls c p) (answersWith s out (shown w (meaning c) p (called w c))) (byCall s plain (step c st))
+    plainly : (c : Call) (p : Shown (meaning c)) → Fits c → Same (answersWith s out (shown w (meaning c) p (called w c))) (byCall s plain (step c st))
     plainly c p fit =
         let k = shows w (meaning c) p (called w c) in
-        by-call (calls c p) plain c _ _ (k .tells-it) (k .leaves) fit (k .lent)
+        by-call plain c _ _ (k .tells-it) (k .leaves) (step-speaks c p st) fit (k .lent)
 
     barely : (c : Call) (p : Shown (meaning c)) → Fits c
-        → let o = shown w (meaning c) p (called w c) in Same (bares c p) (answersWith s out (outcome (bareAnswer (o .answer)) (o .words))) (byCall s bare (step c st))
+        → let o = shown w (meaning c) p (called w c) in Same (answersWith s out (outcome (bareAnswer (o .answer)) (o .words))) (byCall s bare (step c st))
     barely c p fit =
         let k = shows w (meaning c) p (called w c) in
-        by-call (bares c p) bare c _ _ (bare-told (shown w (meaning c) p (called w c) .answer) ∙ ap bare (k .tells-it)) (k .leaves) fit (k .lent)
+        by-call bare c _ _ (bare-told (shown w (meaning c) p (called w c) .answer) ∙ ap bare (k .tells-it)) (k .leaves) (bare-speaks _ (step-speaks c p st)) fit (k .lent)
 
-    dispatch-by : (x : Dispatched) → dispatched w out ≡ x → Same dispatching (performedAs (unchanged s (x .answer)) (x .words) (x .output)) (byCall s plain (step (call.Dispatch 16) st))
-    dispatch-by x e = subst (λ (y : Dispatched). Same dispatching (performedAs (unchanged s (y .answer)) (y .words) (y .output)) (byCall s plain (step (call.Dispatch 16) st))) e (
+    dispatch-by : (x : Dispatched) → dispatched w out ≡ x → Same (performedAs (unchanged s (x .answer)) (x .words) (x .output)) (byCall s plain (step (call.Dispatch 16) st))
+    dispatch-by x e = subst (λ (y : Dispatched). Same (performedAs (unchanged s (y .answer)) (y .words) (y .output)) (byCall s plain (step (call.Dispatch 16) st))) e (
         let k = agree-dispatch w st (here .agree) (here .valid) out in
         record {
           answer = k .answers ∙ ap (λ (n : ℕ). step (call.Dispatch n) st .answer) (h .room);
@@ -227,38 +217,51 @@ module _ (w out : List ℕ) (s : Session) (st : State) (h : Stands w out s st) w
         })
 
     dispatch-same : let o : Dispatched = called w (call.Dispatch (length out)) out in
-        Same dispatching (performedAs (unchanged s (o .answer)) (o .words) (o .output)) (byCall s plain (step (call.Dispatch 16) st))
+        Same (performedAs (unchanged s (o .answer)) (o .words) (o .output)) (byCall s plain (step (call.Dispatch 16) st))
     unfolding called
     dispatch-same = dispatch-by _ (sym (dispatch-is w (passes w st (here .agree) (here .valid) (here .numbers)) out))
 
     -- a call of the clock
-    by-clock : (m : Asked) (x : Step) → toldIn m out (x .answer) ≡ told (x .answer) → x .session .opened ≡ s .opened → Same m (performedAs x w out) (byClock st x)
-    by-clock m x e q = record { answer = e; session = refl; stands = record { long = h .long; room = h .room; agrees = λ z. h .agrees (sym q ∙ z) } }
+    by-clock : (x : Step) → Speaks (told (x .answer)) → x .session .opened ≡ s .opened → Same (performedAs x w out) (byClock st x)
+    by-clock x speaks q = record { answer = told-with out (x .answer) _ refl speaks; session = refl; stands = record { long = h .long; room = h .room; agrees = λ z. h .agrees (sym q ∙ z) } }
 
-    created-same : (made : Created) → Same (creates made) (performedAs (program.newClock s made) w out) (byClock st (program.newClock s made))
+    created-same : (made : Created) → Same (performedAs (program.newClock s made) w out) (byClock st (program.newClock s made))
     unfolding program.newClock
-    created-same (created-as.Ok c) = by-clock (creates (created-as.Ok c)) _ refl refl
-    created-same (created-as.Err why) = by-clock (creates (created-as.Err why)) _ refl refl
+    created-same (created-as.Ok c) = by-clock _ (record { it = tt }) refl
+    created-same (created-as.Err why) = by-clock _ (record { it = tt }) refl
 
-    moved-same : (f : GuestClock → clock.Outcome) → Same (moves f) (performedAs (program.moved s (f (s .clock))) w out) (byClock st (program.moved s (f (s .clock))))
-    unfolding program.moved
-    moved-same f = by-clock (moves f) _ refl (go (s .timed))
+    moved-same : (f : GuestClock → clock.Outcome) → Same (performedAs (program.moved s (f (s .clock))) w out) (byClock st (program.moved s (f (s .clock))))
+    unfolding program.moved program.doneAnswer
+    moved-same f = by-clock _ (speaks (s .timed) (f (s .clock) .answer)) (go (s .timed))
       where
+        done : (x : clock-done.Done) → Speaks (told (program.doneAnswer x))
+        done clock-done-as.Ok = record { it = tt }
+        done (clock-done-as.Err why) = record { it = tt }
+
+        speaks : (b : Bool) (x : clock-done.Done) → Speaks (told (cond b (record { answer = program.doneAnswer x; session = record { opened = s .opened; timed = s .timed; clock = f (s .clock) .clock } }) (unchanged s (answer.Refused 28)) .answer))
+        speaks true x = done x
+        speaks false x = record { it = tt }
+
         go : (b : Bool) → cond b (record { answer = program.doneAnswer (f (s .clock) .answer); session = record { opened = s .opened; timed = s .timed; clock = f (s .clock) .clock } }) (unchanged s (answer.Refused 28)) .session .opened ≡ s .opened
         go true = refl
         go false = refl
 
-    told-same : (f : GuestClock → clock-reading.Reading) → Same (asks f) (performedAs (program.told s (f (s .clock))) w out) (byClock st (program.told s (f (s .clock))))
-    unfolding program.told
-    told-same f = by-clock (asks f) _ refl refl
+    told-same : (f : GuestClock → clock-reading.Reading) → Same (performedAs (program.told s (f (s .clock))) w out) (byClock st (program.told s (f (s .clock))))
+    unfolding program.told program.readingAnswer
+    told-same f = by-clock _ (speaks (s .timed) (f (s .clock))) refl
+      where
+        speaks : (b : Bool) (x : clock-reading.Reading) → Speaks (told (cond b (program.readingAnswer x) (answer.Refused 28)))
+        speaks true (clock-reading-as.Ok n) = record { it = tt }
+        speaks true (clock-reading-as.Err why) = record { it = tt }
+        speaks false x = record { it = tt }
 
-    performs : (m : Asked) → AskedFits m → Same m (goneOn w out s m) (whenOpen s st m)
+    performs : (m : Asked) → AskedFits m → Same (goneOn w out s m) (whenOpen s st m)
     unfolding goneOn onWords whenOpen
-    performs nothing fit = skips nothing
-    performs (begins p) fit = skips (begins p)
+    performs nothing fit = skips
+    performs (begins p) fit = skips
     performs (calls c p) fit = plainly c p fit
     performs (bares c p) fit = barely c p fit
-    performs (works address) fit = by-call (works address) bare (call.StartDpc address) _ _ (work-told (called w (call.StartDpc address) .answer)) refl fit tt
+    performs (works address) fit = by-call bare (call.StartDpc address) _ _ (work-told (called w (call.StartDpc address) .answer)) refl (bare-speaks _ (start-speaks address st)) fit tt
     performs dispatching fit = dispatch-same
     performs (creates made) fit = created-same made
     performs (moves f) fit = moved-same f
@@ -282,14 +285,14 @@ module _ (w out : List ℕ) (s : Session) (st : State) (h : Stands w out s st) w
     unfolding called words.opened
     opened-is p b e = ap (λ (x : Bool). cond x (outcome answer.Done (words.started w p 16 64 64)) (outcome (answer.Refused (words.openRefusal w p 16 64 64)) w)) e
 
-    accepted-same : (p : ℕ) → Accepted (length w) (start p) → Same (begins p) (performedAs (openedBy s (opensWith w p .answer)) (opensWith w p .words) out) (beginning s st p)
+    accepted-same : (p : ℕ) → Accepted (length w) (start p) → Same (performedAs (openedBy s (opensWith w p .answer)) (opensWith w p .words) out) (beginning s st p)
     unfolding accepts
     accepted-same p e =
         let x = opened-is p true (eq-eqb (words.openRefusal w p 16 64 64) 0 (open-refusal w p 16 64 64 ∙ e)) in
         let l = first-step (wordsNeeded 16 64 64) (start p) (refusal-is p ∙ e) st in
         let after = ap (λ (y : Outcome). y .state) l in
         record {
-          answer = ap (λ (y : code-outcome.Outcome). told (y .answer)) x ∙ sym (ap (λ (y : Outcome). y .answer) l);
+          answer = ap (λ (y : code-outcome.Outcome). toldWith out (y .answer)) x ∙ sym (ap (λ (y : Outcome). y .answer) l);
           session = ap with-opened (ap (λ (y : code-outcome.Outcome). accepts (y .answer)) x ∙ sym (eq-eqb (openRefusal (wordsNeeded 16 64 64) p 16 64 64) 0 (refusal-is p ∙ e)));
           stands = record {
             long = keeps-length w (call.Open (length w) p 16 64 64) ∙ h .long;
@@ -303,7 +306,7 @@ module _ (w out : List ℕ) (s : Session) (st : State) (h : Stands w out s st) w
         }
 
     refused-same : (p : ℕ) → (openRefusal (length w) p 16 64 64 ≡ 0 → ⊥)
-        → Same (begins p) (performedAs (openedBy s (opensWith w p .answer)) (opensWith w p .words) out) (beginning s st p)
+        → Same (performedAs (openedBy s (opensWith w p .answer)) (opensWith w p .words) out) (beginning s st p)
     unfolding refusal accepts
     refused-same p n =
         let x = opened-is p false (ne-eqb (words.openRefusal w p 16 64 64) 0 (λ z. n (sym (open-refusal w p 16 64 64) ∙ z))) in
@@ -311,7 +314,7 @@ module _ (w out : List ℕ) (s : Session) (st : State) (h : Stands w out s st) w
         let l : step (opening p) st ≡ gives (log.Refused (openRefusal (wordsNeeded 16 64 64) p 16 64 64)) st = step-refused (opening p) st (openRefusal (wordsNeeded 16 64 64) p 16 64 64) refl r in
         let shut = ne-eqb (openRefusal (wordsNeeded 16 64 64) p 16 64 64) 0 r in
         record {
-          answer = ap (λ (y : code-outcome.Outcome). told (y .answer)) x ∙ ap log.Refused (open-refusal w p 16 64 64 ∙ sym (refusal-is p)) ∙ sym (ap (λ (y : Outcome). y .answer) l);
+          answer = ap (λ (y : code-outcome.Outcome). toldWith out (y .answer)) x ∙ ap log.Refused (open-refusal w p 16 64 64 ∙ sym (refusal-is p)) ∙ sym (ap (λ (y : Outcome). y .answer) l);
           session = ap with-opened (ap (λ (y : code-outcome.Outcome). accepts (y .answer)) x ∙ sym shut);
           stands = record {
             long = ap (λ (y : code-outcome.Outcome). length (y .words)) x ∙ h .long;
@@ -320,50 +323,36 @@ module _ (w out : List ℕ) (s : Session) (st : State) (h : Stands w out s st) w
           };
         }
 
-    opens-same : (p : ℕ) → Same (begins p) (performedAs (openedBy s (opensWith w p .answer)) (opensWith w p .words) out) (beginning s st p)
+    opens-same : (p : ℕ) → Same (performedAs (openedBy s (opensWith w p .answer)) (opensWith w p .words) out) (beginning s st p)
     opens-same p = go (ℕ-discrete (openRefusal (length w) p 16 64 64) 0)
       where
-        go : Dec (openRefusal (length w) p 16 64 64 ≡ 0) → Same (begins p) (performedAs (openedBy s (opensWith w p .answer)) (opensWith w p .words) out) (beginning s st p)
+        go : Dec (openRefusal (length w) p 16 64 64 ≡ 0) → Same (performedAs (openedBy s (opensWith w p .answer)) (opensWith w p .words) out) (beginning s st p)
         go (yes e) = accepted-same p e
         go (no n) = refused-same p n
 
-    begins-as : (m : Asked) → Same m (begun w out s m) (whenClosed s st m)
+    begins-as : (m : Asked) → Same (begun w out s m) (whenClosed s st m)
     unfolding begun whenClosed
-    begins-as nothing = skips nothing
+    begins-as nothing = skips
     begins-as (begins p) = opens-same p
-    begins-as (calls c p) = skips (calls c p)
-    begins-as (bares c p) = skips (bares c p)
-    begins-as (works address) = skips (works address)
-    begins-as dispatching = skips dispatching
-    begins-as (creates made) = skips (creates made)
-    begins-as (moves f) = skips (moves f)
-    begins-as (asks f) = skips (asks f)
+    begins-as (calls c p) = skips
+    begins-as (bares c p) = skips
+    begins-as (works address) = skips
+    begins-as dispatching = skips
+    begins-as (creates made) = skips
+    begins-as (moves f) = skips
+    begins-as (asks f) = skips
 
-  -- ---- a line
+  -- ---- a line, whose numbers of a wait stand in a list
 
-  follows : (l : Line) → AskedFits (line.meaning l) → Same (line.meaning l) (does w out s l) (logged s st (line.meaning l))
+  pub follows : (list : List ℕ) (c : Command) → AskedFits (asked list c) → Same (performed w out list s c) (logged s st (asked list c))
   unfolding performed
-  follows l fit = go (s .opened) refl
+  follows list c fit = go (s .opened) refl
     where
-      go : (b : Bool) → s .opened ≡ b
-          → Same (line.meaning l) (cond b (goneOn w out s (asked (l .list) (l .command))) (begun w out s (asked (l .list) (l .command)))) (cond b (whenOpen s st (line.meaning l)) (whenClosed s st (line.meaning l)))
-      go true e = performs e (line.meaning l) fit
-      go false e = begins-as e (line.meaning l)
+      go : (b : Bool) → s .opened ≡ b → Same (cond b (goneOn w out s (asked list c)) (begun w out s (asked list c))) (cond b (whenOpen s st (asked list c)) (whenClosed s st (asked list c)))
+      go true e = performs e (asked list c) fit
+      go false e = begins-as e (asked list c)
 
--- ---- a list of lines
-
-follow : (ls : List Line) (w out : List ℕ) (s : Session) (st : State) → Stands w out s st → ((l : Line) → Mem l ls → AskedFits (line.meaning l)) → answersTo w out s ls ≡ logAnswers s st (meanings ls)
-follow [] w out s st h fits = refl
-follow (l ∷ ls) w out s st h fits =
-    let k = follows w out s st h l (fits l (inl refl)) in
-    let d = does w out s l in
-    let g = logged s st (line.meaning l) in
-    ap (λ (a : Answer). a ∷ answersTo (d .words) (d .waiting) (d .step .session) ls) (k .answer)
-    ∙ ap (λ (x : Session). g .answer ∷ answersTo (d .words) (d .waiting) x ls) (k .session)
-    ∙ ap (λ (rest : List Answer). g .answer ∷ rest) (follow ls (d .words) (d .waiting) (g .session) (g .state) (k .stands) (λ x m. fits x (inr m)))
-
--- for ANY list of commands, on ANY words and output of the program's lengths: what the program answers is what the log says
-pub program-answers : (w out : List ℕ) (ls : List Line) → length w ≡ wordsNeeded 16 64 64 → length out ≡ 16 → ((l : Line) → Mem l ls → AskedFits (line.meaning l))
-    → (st : State) → answersTo w out program.begin ls ≡ logAnswers program.begin st (meanings ls)
+-- before the first line nothing is asked of the words
+pub at-first : (w out : List ℕ) (st : State) → length w ≡ wordsNeeded 16 64 64 → length out ≡ 16 → Stands w out program.begin st
 unfolding program.begin
-program-answers w out ls long room fits st = follow ls w out program.begin st (record { long = long; room = room; agrees = λ z. absurd (not-both (sym z)) }) fits
+at-first w out st long room = record { long = long; room = room; agrees = λ z. absurd (not-both (sym z)) }

@@ -1,4 +1,4 @@
--- Document 01's example script, and what it prints; and lines of which no answer of a script tells the arguments.
+-- Document 01's example script, and what it prints, byte by byte; and lines of which no answer of a script tells the arguments.
 use Prim.Native.Nat.{ℕ}
 use mathlib.Core.List.{List, [], _∷_}
 use mathlib.Core.Bool.{true, false}
@@ -7,23 +7,17 @@ use Rattle.arch.specs.declared.Architecture.the-variants.{X86}
 use Rattle.images.specs.declared.TimerBacking.the-variants.{Image}
 use Rattle.script_lex.specs.Text.{bytesOf}
 use Rattle.commands.specs.Commands.{Asked, calls}
-use Rattle.model.specs.Answer.{Answer, Done, ThreadNumber, Blocked, Run, Flag}
 use Rattle.model.specs.Call as call
 
-unfoldable pub script : List (List ℕ)
-script =
-    bytesOf "open 8"
-    ∷ bytesOf "event 4096 0 0"
-    ∷ bytesOf "create 9"
-    ∷ bytesOf "wait any never 0 event 4096"
-    ∷ bytesOf "dispatch"
-    ∷ bytesOf "set 4096"
-    ∷ bytesOf "yield"
-    ∷ bytesOf "dispatch"
-    ∷ []
+unfoldable pub script : List ℕ
+script = bytesOf "open 8\nevent 4096 0 0\ncreate 9\nwait any never 0 event 4096\ndispatch\nset 4096\nyield\ndispatch\n"
 
-unfoldable pub said : List Answer
-said = Done ∷ Done ∷ ThreadNumber 2 ∷ Blocked ∷ Run 2 ∷ Flag false ∷ Done ∷ Run 2 ∷ []
+unfoldable pub printed : List ℕ
+printed = bytesOf "1 ok\n2 ok\n3 thread 2\n4 blocked\n5 run 2\n6 no\n7 ok\n8 run 2\n"
+
+-- a line ends where the next begins, also an empty one; a last one without a newline counts
+unfoldable pub lines : List (List ℕ)
+lines = bytesOf "set 1" ∷ bytesOf "" ∷ bytesOf "yield" ∷ []
 
 -- ---- a thread's exit status, what a DPC is given, and how a timer is set
 

@@ -1,3 +1,3 @@
 pub mod Script
-pub mod Program
+pub mod Bytes
 pub mod Example

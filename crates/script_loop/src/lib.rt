@@ -1,8 +1,13 @@
 // A script read and answered: one call a line, from the file that the first argument names or from standard input, and one line of answer for each.
 use libc::STDERR_FILENO;
 use libc::STDIN_FILENO;
-use runner::lines;
+use libc::STDOUT_FILENO;
 
+fn tell_lost() {
+    io::write_all(STDERR_FILENO, b"bench: not all answers could be written\n");
+}
+
+// The answers of each part are written together, before the next part is read.
 // A proved loop has to end, and nothing says that a file does. So the loop counts its turns down, from a number that no run
 // uses up.
 fn run(fd: i32) {
@@ -10,12 +15,12 @@ fn run(fd: i32) {
     let mut waiting = [0u64; 16];
     let mut list = [0u64; 2048];
     let mut line = [0u8; 4097];
-    let mut text = [0u8; 8192];
-    let mut at = lines::start();
+    let mut text = [0u8; 409600];
+    let mut at = script_bytes::start();
     let mut turns = u64::MAX;
     while turns > 0 {
-        let mut chunk = [0u8; 4096];
-        let got = libc::read(fd, &mut chunk);
+        let mut part = [0u8; 1024];
+        let got = libc::read(fd, &mut part);
         if got < 0 {
             os::fail(b"bench: reading");
             break;
@@ -23,21 +28,27 @@ fn run(fd: i32) {
         if got == 0 {
             break;
         }
-        let n = io::count(got, &chunk);
-        at = lines::take(
+        let n = io::count(got, &part);
+        at = script_bytes::take(
             &mut w,
             &mut waiting,
             &mut list,
             &mut line,
             &mut text,
-            &chunk[..n],
+            &part[..n],
             at,
         );
+        let written = at.written;
+        if !io::write_all(STDOUT_FILENO, &text[..written]) {
+            tell_lost();
+            return;
+        }
         turns -= 1;
     }
-    let last = lines::end(&mut w, &mut waiting, &mut list, &mut line, &mut text, at);
-    if last.lost {
-        io::write_all(STDERR_FILENO, b"bench: not all answers could be written\n");
+    let last = script_bytes::end(&mut w, &mut waiting, &mut list, &line, &mut text, at);
+    let written = last.written;
+    if !io::write_all(STDOUT_FILENO, &text[..written]) {
+        tell_lost();
     }
 }
 

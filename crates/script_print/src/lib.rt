@@ -145,14 +145,15 @@ pub fn bare(a: Answer) -> Answer
     }
 }
 
-// The line of an answer, with the number of the line that it answers, at the start of `text`: its length, or the text's where that is shorter.
-// With up to 256 numbers 8,192 bytes suffice.
-pub fn write_answer(text: &mut [u8], number: u64, a: Answer, numbers: &[u64]) -> usize
-    ensures { λ r. ⌜ written (now (text .exit)) r ≡ printed (now (text .entry)) 0 (answerLine number a (now (numbers .entry))) ⌝ }
+// The line of an answer, with the number of the line that it answers, at place `at` of `text`: the place behind it, or the text's end where
+// it is cut there.
+pub fn write_answer(text: &mut [u8], at: usize, number: u64, a: Answer, numbers: &[u64]) -> usize
+    requires { ⌜ at ≤ length (now text) ⌝ }
+    ensures { λ r. ⌜ written (now (text .exit)) r ≡ printed (now (text .entry)) at (answerLine number a (now (numbers .entry))) ⌝ }
     ensures { λ r. ⌜ r ≤ length (now (text .exit)) ⌝ }
 {
-    let behind = put_number(text, 0, number);
-    let at = put_bytes(text, behind, b" ");
-    let end = put_answer(text, at, a, numbers);
+    let behind = put_number(text, at, number);
+    let spaced = put_bytes(text, behind, b" ");
+    let end = put_answer(text, spaced, a, numbers);
     put_bytes(text, end, b"\n")
 }

@@ -1,8 +1,8 @@
 // Replays stored scripts from standard input: each is run on a bench of its own, and a line `#` ends it and is written as it is.
+ghost use Rattle.script_bytes.specs.Bytes.{Within};
 use libc::STDIN_FILENO;
 use libc::STDOUT_FILENO;
-use runner::lines;
-use runner::lines::Place;
+use script_bytes::Place;
 
 // Whether the line that has come is `#`.
 fn is_mark(line: &[u8], p: Place) -> bool {
@@ -23,14 +23,19 @@ fn step(
     text: &mut [u8],
     b: u8,
     p: Place,
-) -> Place {
+) -> Place
+    requires { ⌜ Within p (now line) (now text) ⌝ }
+    ensures { λ r. ⌜ Within r (now (line .exit)) (now (text .exit)) ⌝ }
+{
     if b == b'\n' {
         if is_mark(line, p) {
+            let n = p.written;
+            io::write_all(STDOUT_FILENO, &text[..n]);
             io::write_all(STDOUT_FILENO, b"#\n");
-            return lines::start();
+            return script_bytes::start();
         }
     }
-    lines::byte(w, waiting, list, line, text, b, p)
+    script_bytes::byte(w, waiting, list, line, text, b, p)
 }
 
 fn take(
@@ -39,13 +44,16 @@ fn take(
     list: &mut [u64],
     line: &mut [u8],
     text: &mut [u8],
-    chunk: &[u8],
+    part: &[u8],
     p: Place,
-) -> Place {
-    let mut at = p;
+) -> Place
+    requires { ⌜ Within p (now line) (now text) ⌝ }
+    ensures { λ r. ⌜ Within r (now (line .exit)) (now (text .exit)) ⌝ }
+{
+    let mut at = script_bytes::from_start(p);
     let mut i: usize = 0;
-    while i < chunk.len() {
-        at = step(w, waiting, list, line, text, chunk[i], at);
+    while i < part.len() {
+        at = step(w, waiting, list, line, text, part[i], at);
         i += 1;
     }
     at
@@ -57,26 +65,30 @@ fn main() {
     let mut waiting = [0u64; 16];
     let mut list = [0u64; 2048];
     let mut line = [0u8; 4097];
-    let mut text = [0u8; 8192];
-    let mut at = lines::start();
+    let mut text = [0u8; 409600];
+    let mut at = script_bytes::start();
     let mut turns = u64::MAX;
     while turns > 0 {
-        let mut chunk = [0u8; 4096];
-        let got = libc::read(STDIN_FILENO, &mut chunk);
+        let mut part = [0u8; 1024];
+        let got = libc::read(STDIN_FILENO, &mut part);
         if got <= 0 {
             break;
         }
-        let n = io::count(got, &chunk);
+        let n = io::count(got, &part);
         at = take(
             &mut w,
             &mut waiting,
             &mut list,
             &mut line,
             &mut text,
-            &chunk[..n],
+            &part[..n],
             at,
         );
+        let written = at.written;
+        io::write_all(STDOUT_FILENO, &text[..written]);
         turns -= 1;
     }
-    lines::end(&mut w, &mut waiting, &mut list, &mut line, &mut text, at);
+    let last = script_bytes::end(&mut w, &mut waiting, &mut list, &line, &mut text, at);
+    let written = last.written;
+    io::write_all(STDOUT_FILENO, &text[..written]);
 }
