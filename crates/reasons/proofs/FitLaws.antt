@@ -1,5 +1,5 @@
 -- Which words fit a form, as the readers have it.
-use mathlib.Core.Path.{_≡_, refl, sym, ap, _∙_}
+use mathlib.Core.Path.{_≡_, refl, _∙_}
 use mathlib.Core.Bool.{Bool, cond, true, false, _&&_}
 use mathlib.Core.List.{List, [], _∷_}
 use Prim.Native.Nat.{ℕ, _+_, _-_}
@@ -20,7 +20,6 @@ use Rattle.script_lex.specs.Location.{architectureOf}
 use Rattle.script_lex.proofs.Cases.{either}
 use Rattle.script.specs.Wait.{kindOf, isRead}
 use Rattle.reasons.specs.declared.Reason.{Reason}
-use Rattle.reasons.specs.declared.Reason.the-variants as reason
 use Rattle.reasons.specs.Reasons.{isFine, continued, listed, isNumeral, unreadNumber, ofNumber, ofSigned, numberReason, signedReason, orNumber, listReason, choiceReason, wordReason, kindAt, nextOf, endReason, reasonFrom}
 
 -- ---- what was read

@@ -23,7 +23,7 @@ fn put_rest(text: &mut [u8], at: usize, bytes: &[u8], from: usize) -> usize
     to
 }
 
-fn put_bytes(text: &mut [u8], at: usize, bytes: &[u8]) -> usize
+pub fn put_bytes(text: &mut [u8], at: usize, bytes: &[u8]) -> usize
     ensures { λ r. ⌜ written (now (text .exit)) r ≡ printed (now (text .entry)) at (now (bytes .entry)) ⌝ }
 {
     put_rest(text, at, bytes, 0)
