@@ -7,7 +7,6 @@ ghost use Rattle.script_print.specs.Print.{written, printed};
 ghost use Rattle.reason_text.specs.Words.{visible, shown, skipped, quoted};
 ghost use Rattle.reason_text.specs.Texts.{choiceText, kindText, named, wanted, missing, wordsText, reasonText};
 use reasons::Reason;
-use reasons::scan;
 use script_lex::lex;
 
 mod sentences;
@@ -62,8 +61,8 @@ fn skip(line: &[u8], place: usize) -> usize
 fn put_first(text: &mut [u8], at: usize, line: &[u8], place: usize) -> usize
     ensures { λ r. ⌜ written (now (text .exit)) r ≡ printed (now (text .entry)) at (shown (take 40 (first (wordsAt (now (line .entry)) place)))) ⌝ }
 {
-    let from = scan::word_start(line, place);
-    let to = scan::word_end(line, from);
+    let from = lex::word_start(line, place);
+    let to = lex::word_end(line, from);
     if line.len() < to {
         return at;
     }
@@ -202,6 +201,6 @@ fn put_text(text: &mut [u8], at: usize, line: &[u8], reason: Reason) -> usize
 pub fn put_reason(text: &mut [u8], at: usize, line: &[u8], reason: Reason) -> usize
     ensures { λ r. ⌜ written (now (text .exit)) r ≡ printed (now (text .entry)) at (reasonText (now (line .entry)) reason) ⌝ }
 {
-    let n = reasons::text_length(line);
+    let n = script::text_length(line);
     put_text(text, at, &line[..n], reason)
 }

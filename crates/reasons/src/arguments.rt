@@ -5,7 +5,6 @@ ghost use lib.ListN.{length, getD};
 ghost use Rattle.script_lex.specs.Words.{wordsAt, first, part};
 ghost use Rattle.reasons.specs.Reasons.{digits, isNumeral, unreadNumber, numberReason, signedReason, orNumber, listReason, choiceReason, wordReason, nextOf, endReason, reasonFrom};
 use super::Reason;
-use super::scan;
 use super::table;
 use script_lex::lex;
 use script_lex::lex::Number;
@@ -37,8 +36,8 @@ fn are_digits(line: &[u8], from: usize, to: usize) -> bool
 fn is_numeral(line: &[u8], at: usize) -> bool
     ensures { λ r. ⌜ r ≡ isNumeral (first (wordsAt (now (line .entry)) at)) ⌝ }
 {
-    let from = scan::word_start(line, at);
-    let to = scan::word_end(line, from);
+    let from = lex::word_start(line, at);
+    let to = lex::word_end(line, from);
     if line.len() < to {
         return false;
     }

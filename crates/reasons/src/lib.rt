@@ -1,15 +1,12 @@
 // Why a line of a script cannot be read.
 ghost use mathlib.Core.Path.{_≡_};
-ghost use Prim.Native.Nat.{_+_, _≤_};
+ghost use Prim.Native.Nat.{_≤_};
 ghost use lib.ListN.{length};
 ghost use Rattle.script_lex.specs.Words.{wordsAt};
-ghost use Rattle.script.specs.Line.{textLength};
-ghost use Rattle.reasons.specs.Grammar.{grammar, clockGrammar};
-ghost use Rattle.reasons.specs.Reasons.{isFine, continued, reasonFrom, namedReason, clockReason, wordsReason, reasonOf};
+ghost use Rattle.reasons.specs.Reasons.{isFine, continued, namedReason, clockReason, wordsReason, reasonOf};
 use script_lex::lex;
 
 mod arguments;
-pub mod scan;
 mod table;
 
 // Where a reason has a place, the word of that number is meant, the first has 0; where it has a kind, that is the letter of what is wanted there.
@@ -39,29 +36,14 @@ pub fn is_fine(reason: Reason) -> bool
     }
 }
 
-// How many bytes of a line are read: all but a carriage return at the end.
-pub fn text_length(line: &[u8]) -> usize
-    ensures { λ r. ⌜ r ≡ textLength (now (line .entry)) ⌝ }
-    ensures { λ r. ⌜ r ≤ length (now (line .entry)) ⌝ }
-{
-    let n = line.len();
-    if n == 0 {
-        return 0;
-    }
-    if line[n - 1] == b'\r' {
-        return n - 1;
-    }
-    n
-}
-
 // The words from `at` on, the first of which names its form in the table.
 fn named_reason(line: &[u8], at: usize, place: usize, table: &[u8]) -> Reason
     requires { ⌜ (length (now line) ≤ 4096) × (place ≤ 1) ⌝ }
     ensures { λ r. ⌜ r ≡ namedReason (wordsAt (now (table .entry)) 0) place (wordsAt (now (line .entry)) at) ⌝ }
 {
     let row = table::form_at(line, at, table);
-    let from = scan::word_start(table, row);
-    let to = scan::word_end(table, from);
+    let from = lex::word_start(table, row);
+    let to = lex::word_end(table, from);
     if table.len() < to {
         return Reason::UnknownWord(place);
     }
@@ -113,7 +95,7 @@ pub fn reason_of(line: &[u8]) -> Reason
     if 4096 < line.len() {
         return Reason::TooLong;
     }
-    let n = text_length(line);
+    let n = script::text_length(line);
     words_reason(&line[..n])
 }
 

@@ -2,15 +2,14 @@
 ghost use mathlib.Core.Path.{_≡_};
 ghost use Rattle.script_lex.specs.Words.{wordsAt, first, same};
 ghost use Rattle.reasons.specs.Reasons.{listed, formOf};
-use super::scan;
 use script_lex::lex;
 
 // Whether the first word of the line is the first of the table.
 fn is_same_word(line: &[u8], at: usize, table: &[u8], i: usize) -> bool
     ensures { λ r. ⌜ r ≡ same (first (wordsAt (now (line .entry)) at)) (first (wordsAt (now (table .entry)) i)) ⌝ }
 {
-    let from = scan::word_start(table, i);
-    let to = scan::word_end(table, from);
+    let from = lex::word_start(table, i);
+    let to = lex::word_end(table, from);
     if table.len() < to {
         return lex::is_word(line, at, b"");
     }

@@ -12,7 +12,7 @@ mod scheduler_lines;
 mod wait;
 
 // How many bytes of a line are read: all but a carriage return at the end.
-fn text_length(line: &[u8]) -> usize
+pub fn text_length(line: &[u8]) -> usize
     ensures { λ r. ⌜ r ≡ textLength (now (line .entry)) ⌝ }
     ensures { λ r. ⌜ r ≤ length (now (line .entry)) ⌝ }
 {

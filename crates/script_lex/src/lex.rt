@@ -27,7 +27,7 @@ fn is_blank(b: u8) -> bool
 }
 
 // The first place from `from` on where no blank stands.
-fn word_start(line: &[u8], from: usize) -> usize
+pub fn word_start(line: &[u8], from: usize) -> usize
     ensures { λ r. ⌜ r ≡ from + blanks (drop from (now (line .entry))) ⌝ }
 {
     let mut at = from;
@@ -41,7 +41,7 @@ fn word_start(line: &[u8], from: usize) -> usize
 }
 
 // The first place from `from` on where a blank stands, or the line's end.
-fn word_end(line: &[u8], from: usize) -> usize
+pub fn word_end(line: &[u8], from: usize) -> usize
     ensures { λ r. ⌜ r ≡ from + letters (drop from (now (line .entry))) ⌝ }
 {
     let mut at = from;
