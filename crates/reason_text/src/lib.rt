@@ -1,4 +1,4 @@
-// Refusals in English. Each writer goes as far as the text has room, and answers the place behind what it wrote.
+// Reasons in English. Each writer goes as far as the text has room, and answers the place behind what it wrote.
 ghost use mathlib.Core.Path.{_≡_};
 ghost use Prim.Native.Nat.{_≤_};
 ghost use lib.ListN.{length, take};
@@ -8,10 +8,6 @@ ghost use Rattle.reason_text.specs.Words.{visible, shown, skipped, quote
 ghost use Rattle.reason_text.specs.Texts.{choiceText, kindText, named, wanted, missing, wordsText, reasonText};
 use reasons::Reason;
 use script_lex::lex;
-
-mod sentences;
-
-pub use sentences::put_sentence;
 
 // A byte as it is shown: a question mark for what is not printable ASCII.
 fn visible_of(b: u8) -> u8

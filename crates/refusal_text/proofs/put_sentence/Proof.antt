@@ -1,8 +1,8 @@
 use borrow.Author.Tests.{eq-eqb, ne-eqb}
-use Rattle.reason_text.specs.Sentences.{sentence}
+use Rattle.refusal_text.specs.Sentences.{sentence}
 use borrow.Author.Needs.{needs}
-use Rattle.reason_text.proofs.sentences.put_sentence.Statement.{statement}
-use Rattle.reason_text.proofs.sentences.put_sentence.Tie as tie
+use Rattle.refusal_text.proofs.put_sentence.Statement.{statement}
+use Rattle.refusal_text.proofs.put_sentence.Tie as tie
 
 returns : tie.Need-returns
 unfolding sentence

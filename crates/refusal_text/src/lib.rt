@@ -1,7 +1,7 @@
-// A sentence for each refusal.
+// A sentence for each refusal. The writer goes as far as the text has room, and answers the place behind what it wrote.
 ghost use mathlib.Core.Path.{_≡_};
 ghost use Rattle.script_print.specs.Print.{written, printed};
-ghost use Rattle.reason_text.specs.Sentences.{sentence, sentence8, sentence15, sentence22};
+ghost use Rattle.refusal_text.specs.Sentences.{sentence, sentence8, sentence15, sentence22};
 
 // From 22 on.
 fn put_sentence_22(text: &mut [u8], at: usize, number: u64) -> usize

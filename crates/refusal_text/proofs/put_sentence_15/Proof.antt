@@ -1,8 +1,8 @@
 use borrow.Author.Tests.{eq-eqb, ne-eqb}
-use Rattle.reason_text.specs.Sentences.{sentence15}
+use Rattle.refusal_text.specs.Sentences.{sentence15}
 use borrow.Author.Needs.{needs}
-use Rattle.reason_text.proofs.sentences.put_sentence_15.Statement.{statement}
-use Rattle.reason_text.proofs.sentences.put_sentence_15.Tie as tie
+use Rattle.refusal_text.proofs.put_sentence_15.Statement.{statement}
+use Rattle.refusal_text.proofs.put_sentence_15.Tie as tie
 
 returns : tie.Need-returns
 unfolding sentence15
