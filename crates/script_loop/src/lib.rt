@@ -3,7 +3,7 @@ use libc::STDERR_FILENO;
 use libc::STDIN_FILENO;
 use libc::STDOUT_FILENO;
 
-fn tell_lost() {
+pub fn tell_lost() {
     io::write_all(STDERR_FILENO, b"bench: not all answers could be written\n");
 }
 
@@ -52,20 +52,27 @@ fn run(fd: i32) {
     }
 }
 
-pub fn answer_script() {
+// The file that the first argument names, or standard input; negative where it cannot be opened, which is told.
+pub fn open_script() -> i32 {
     if os::arg_count() < 2 {
-        run(STDIN_FILENO);
-        return;
+        return STDIN_FILENO;
     }
     let mut path = io::buffer();
     let length = os::arg(1, &mut path);
     if os::errno() != 0 {
         os::fail(b"path");
-        return;
+        return -1;
     }
     let fd = os::open_read(&path[..length]);
     if fd < 0 {
         os::fail(&path[..length]);
+    }
+    fd
+}
+
+pub fn answer_script() {
+    let fd = open_script();
+    if fd < 0 {
         return;
     }
     run(fd);

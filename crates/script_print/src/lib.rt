@@ -54,7 +54,7 @@ fn spell(n: u64, digits: &mut [u8]) -> usize
     i
 }
 
-fn put_number(text: &mut [u8], at: usize, n: u64) -> usize
+pub fn put_number(text: &mut [u8], at: usize, n: u64) -> usize
     ensures { λ r. ⌜ written (now (text .exit)) r ≡ printed (now (text .entry)) at (decimal n) ⌝ }
 {
     let mut digits = [0u8; 20];
@@ -110,7 +110,7 @@ fn put_flag(text: &mut [u8], at: usize, flag: bool) -> usize
     put_bytes(text, at, b"no")
 }
 
-fn put_answer(text: &mut [u8], at: usize, a: Answer, numbers: &[u64]) -> usize
+pub fn put_answer(text: &mut [u8], at: usize, a: Answer, numbers: &[u64]) -> usize
     ensures { λ r. ⌜ written (now (text .exit)) r ≡ printed (now (text .entry)) at (answerText a (now (numbers .entry))) ⌝ }
 {
     match a {
