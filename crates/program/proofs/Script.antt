@@ -1,12 +1,12 @@
 -- A line on the program and on the log.
 use Prim.Native.Nat.{ℕ, zero, suc, _+_}
-use mathlib.Core.List.{List, [], _∷_}
+use mathlib.Core.List.{List}
 use mathlib.Core.Bool.{Bool, true, false, cond}
 use mathlib.Core.Path.{_≡_, refl, sym, ap, _∙_, subst}
 use native.Mathlib.Decide.{ℕ-discrete}
 use borrow.Author.Tests.{eq-eqb, ne-eqb}
 use lib.Dec.{eqb, ltb}
-use lib.ListN.{length, length-set, getD, set, take}
+use lib.ListN.{length, length-set, getD, set}
 use Rattle.answers.specs.declared.Answer as code
 use Rattle.answers.specs.declared.Answer.the-variants as answer
 use Rattle.answers.specs.Outcome as code-outcome
@@ -30,7 +30,6 @@ use Rattle.dispatcher.specs.Dispatched.{dispatched}
 use Rattle.script_lex.specs.declared.command.Command.{Command}
 use Rattle.script_print.specs.Print.{bareAnswer}
 use Rattle.opening.specs.Open as words
-use Rattle.form.specs.Form.{inForm}
 use Rattle.model.specs.State.{State}
 use Rattle.model.specs.Answer.{Answer, Outcome, gives}
 use Rattle.model.specs.Answer as log
@@ -48,7 +47,7 @@ use Rattle.model.proofs.StartLaws.{first-step, valid-begun, numbers-begun}
 use Rattle.call_answers.specs.Told.{told, toldWith, toldWork}
 use Rattle.calls.specs.Guard as kind
 use Rattle.calls.specs.Called.{Reading, tells, images, Meaning, opens, acts, starts, dispatches, reads, meaning, ReadResult, Result, called}
-use Rattle.calls.specs.Run.{answered, left, answerOf, readTold, wordsOf, LentTo, Lent}
+use Rattle.calls.specs.Run.{answered, left, answerOf, wordsOf, LentTo, Lent}
 use Rattle.agreement.specs.Agree.{Agree}
 use Rattle.agreement_lengths.proofs.Calls.{keeps-length}
 use Rattle.agreement_lengths.proofs.Dispatcher.{length-dispatched}
@@ -62,7 +61,7 @@ use Rattle.theorem.proofs.Start.{agree-begun}
 use Rattle.runner.specs.declared.session.Session.{Session}
 use Rattle.runner.specs.declared.session.Step.{Step}
 use Rattle.runner.specs.Session as program
-use Rattle.commands.specs.Commands.{Shown, shown, ReadShown, readShown, Asked, nothing, begins, calls, bares, works, dispatching, creates, moves, asks, asked, onWords, sequenceOf, waited}
+use Rattle.commands.specs.Commands.{Shown, shown, ReadShown, readShown, Asked, nothing, begins, calls, bares, works, dispatching, creates, moves, asks, asked, onWords, sequenceOf}
 use Rattle.runner.specs.Session.{Performed, performedAs, unchanged, answersWith, goneOn, begun, performed, accepts, opensWith, openedBy}
 use Rattle.program.specs.Script.{opening, AskedFits, plain, bare, Logged, unread, byCall, byClock, whenOpen, beginning, whenClosed, logged}
 use Rattle.program.proofs.Speaks.{Speaks, told-with, step-speaks, start-speaks, bare-speaks}

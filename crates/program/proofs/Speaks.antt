@@ -1,9 +1,9 @@
 -- Only a dispatch answers a deadlock: so every other answer is told without the output of a dispatch.
 use Prim.Native.Nat.{ℕ, suc}
 use mathlib.Core.Bool.{Bool, true, false, cond}
-use mathlib.Core.List.{List, []}
+use mathlib.Core.List.{List}
 use mathlib.Core.Option.{Option, none, some}
-use mathlib.Core.Path.{_≡_, refl, sym, subst, _∙_}
+use mathlib.Core.Path.{_≡_, sym, subst}
 use lib.Dec.{eqb, leb}
 use Rattle.answers.specs.declared.Answer as code
 use Rattle.answers.specs.declared.Answer.the-variants as answer
@@ -15,7 +15,7 @@ use Rattle.model.specs.Threads.{isThread, statusOf, waitOf}
 use Rattle.model.specs.Waits.{mutexAt, eventAt, eventsOf, timerAt, timersOf, isMet, reached}
 use Rattle.model.specs.Dpcs.{phaseAt, isQueued, dpcAt, activeDpc}
 use Rattle.model.specs.Refusal.{pairs}
-use Rattle.model.specs.Answer.{Answer, Outcome, gives}
+use Rattle.model.specs.Answer.{Answer, Outcome}
 use Rattle.model.specs.Answer as log
 use Rattle.model.specs.Call.{Call, Read}
 use Rattle.model.specs.Call as call

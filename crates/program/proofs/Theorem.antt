@@ -2,38 +2,34 @@
 -- the program writes is the text of what the log says of the calls that the lines mean, line by line, each with its number.
 use Prim.Native.Nat.{ℕ, zero, suc, _+_, _*_, _^_, _%_, _≤_, _<_}
 use mathlib.Core.List.{List, [], _∷_, _++_, append-nil, append-assoc}
-use mathlib.Core.Bool.{Bool, true, false, cond}
+use mathlib.Core.Bool.{true, false}
 use mathlib.Core.Path.{_≡_, refl, sym, ap, ap₂, subst, _∙_}
 use native.Mathlib.Numerals.{add-one}
 use native.Mathlib.Omega.{arith}
-use borrow.Author.Tests.{lt-ltb, le-ltb, ltb-true, ltb-false, eqb-true, eq-eqb, ne-eqb}
+use borrow.Author.Tests.{lt-ltb, ltb-true, ltb-false, eqb-true, eq-eqb, ne-eqb}
 use lib.Dec.{eqb, ltb}
 use lib.ListN.{length, replicate, length-replicate, length-set, length-take, length-append, set, take}
 use lib.Seq.{take-all, take-suc-set, take-append-le, length-take-le}
 use Rattle.answers.specs.declared.Answer as code
 use Rattle.answers.specs.declared.Answer.the-variants as answer
-use Rattle.script_lex.specs.declared.command.Command.the-variants as command
-use Rattle.script.specs.Wait.{Taken, taken}
-use Rattle.script.specs.Line.{textLine, textLength, readLine}
-use Rattle.script_lex.specs.Words.{wordsOf}
-use Rattle.script_print.specs.Print.{Written, printed}
+use Rattle.script.specs.Wait.{Taken}
+use Rattle.script.specs.Line.{readLine}
+use Rattle.script_print.specs.Print.{printed}
 use Rattle.script_print.specs.Print as print
 use Rattle.script_print.proofs.RoomLaws.{printed-end, printed-up-to, line-short}
 use Rattle.script_print.proofs.PrintLaws.{printed-length}
 use Rattle.script_lex.proofs.Cases.{either}
 use Rattle.runner.specs.declared.session.Session.{Session}
 use Rattle.runner.specs.Session.{begin, Performed, performed}
-use Rattle.runner.specs.Line.{Answered, answered}
+use Rattle.runner.specs.Line.{answered}
 use Rattle.commands.specs.Commands.{Asked, asked}
-use Rattle.script_bytes.specs.declared.Place.{Place}
 use Rattle.script_bytes.specs.Bytes.{mostPart, mostAnswer, Lent, Machine, machine, begun, finished, kept, byteTaken, bytesTaken, fromStart, partTaken, ended}
 use Rattle.model.specs.State.{State}
 use Rattle.model.specs.Fits.{U64s}
-use Rattle.model.specs.Refusal.{wordsNeeded}
 use Rattle.model.specs.Answer.{Answer}
 use Rattle.call_answers.specs.Told.{toldWith}
 use Rattle.program.specs.Script.{AskedFits, Logged, logged, logAnswers}
-use Rattle.program.specs.Bytes.{lastLine, cut, linesOf, joined, meant, meanings, answerText, answerLine, textFrom, gathered, writes}
+use Rattle.program.specs.Bytes.{cut, linesOf, joined, meant, meanings, answerText, answerLine, textFrom, gathered, writes}
 use Rattle.program.proofs.Script.{Stands, Same, follows, at-first}
 use Rattle.program.proofs.Lines.{read-fits}
 use Rattle.program.proofs.WaitList.{means-alike, list-long}

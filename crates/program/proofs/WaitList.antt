@@ -1,12 +1,12 @@
 -- The list that the numbers of a wait go into never decides how a line is read: a line of 4,096 bytes has no more than 2,048 words.
-use Prim.Native.Nat.{ℕ, zero, suc, _+_, _*_, _≤_, _<_}
+use Prim.Native.Nat.{ℕ, _+_, _≤_, _<_}
 use mathlib.Core.List.{List, [], _∷_, _++_}
 use mathlib.Core.Bool.{Bool, true, false, cond}
-use mathlib.Core.Path.{_≡_, refl, sym, ap, ap₂, _∙_}
+use mathlib.Core.Path.{_≡_, refl, sym, ap, _∙_}
 use native.Mathlib.Numerals.{add-one}
 use native.Mathlib.Omega.{arith}
 use borrow.Author.Tests.{lt-ltb, le-ltb, ltb-false}
-use lib.Dec.{eqb, ltb}
+use lib.Dec.{ltb}
 use lib.ListN.{length, length-set, length-take, set, take}
 use lib.Seq.{take-suc-set}
 use Rattle.script_lex.specs.declared.lex.Number.{Number}
@@ -14,7 +14,7 @@ use Rattle.script_lex.specs.declared.lex.Number.the-variants as number
 use Rattle.script_lex.specs.declared.command.Command.{Command}
 use Rattle.script_lex.specs.declared.command.Command.the-variants as command
 use Rattle.script_lex.specs.Names as name
-use Rattle.script_lex.specs.Words.{blank, grown, pieces, full, wordsOf, first, others, same}
+use Rattle.script_lex.specs.Words.{wordsOf, first, others, same}
 use Rattle.script_lex.specs.Numbers.{numberOf}
 use Rattle.script_lex.specs.Arguments.{most}
 use Rattle.script.specs.declared.wait.Pairs.{Pairs}
@@ -23,46 +23,13 @@ use Rattle.script.specs.Scheduler.{shortLine}
 use Rattle.script.specs.Wait.{Paired, paired, itemOf, isRead, told, pairsOf, Taken, taken, waitCommand, withIrql, waitFrom, withDeadline, waitUntil, waitLine}
 use Rattle.script.specs.Line.{textLength, textLine, readLine}
 use Rattle.script_lex.proofs.Cases as Cases
+use Rattle.script_lex.proofs.WordLaws.{words-few}
 use Rattle.model.specs.Call as call
 use Rattle.calls.specs.Called.{optional}
 use Rattle.commands.specs.Commands.{calls, asked}
 use Rattle.program.proofs.Lines.{Ok, unread, short-ok}
 
--- ---- how many words a line has
-
--- of the pieces the first may be empty
-abbrev Few : List (List ℕ) → ℕ → Type 0
-Few [] n = ⊥
-Few ([] ∷ ws) n = 2 * length (full ws) ≤ n
-Few ((b ∷ w) ∷ ws) n = 2 * suc (length (full ws)) ≤ n + 1
-
-few-full : (ps : List (List ℕ)) (n : ℕ) → Few ps n → 2 * length (full ps) ≤ n + 1
-unfolding full
-few-full [] n h = absurd h
-few-full ([] ∷ ws) n h = omega arith
-few-full ((b ∷ w) ∷ ws) n h = h
-
-few-grown : (b : ℕ) (ps : List (List ℕ)) (n : ℕ) → Few ps n → Few (grown b ps) (suc n)
-unfolding grown
-few-grown b [] n h = absurd h
-few-grown b ([] ∷ ws) n h = omega arith
-few-grown b ((a ∷ w) ∷ ws) n h = omega arith
-
-few-pieces : (s : List ℕ) → Few (pieces s) (length s)
-unfolding pieces full
-few-pieces [] = omega arith
-few-pieces (b ∷ s) = go (blank b) (few-pieces s)
-  where
-    go : (c : Bool) → Few (pieces s) (length s) → Few (cond c ([] ∷ pieces s) (grown b (pieces s))) (suc (length s))
-    go true h = omega (arith, few-full (pieces s) (length s) h)
-    go false h = few-grown b (pieces s) (length s) h
-
--- between two words stands a blank
-pub few-words : (s : List ℕ) → 2 * length (wordsOf s) ≤ length s + 1
-unfolding wordsOf
-few-words s = few-full (pieces s) (length s) (few-pieces s)
-
-pub fewer-others : (ws : List (List ℕ)) → length (others ws) ≤ length ws
+fewer-others : (ws : List (List ℕ)) → length (others ws) ≤ length ws
 unfolding others
 fewer-others [] = omega arith
 fewer-others (w ∷ ws) = omega arith
@@ -82,7 +49,7 @@ AlikeIn a b = Alike (a .count) (a .list) (b .count) (b .list)
 put-alike : (i n : ℕ) (l m : List ℕ) → i < length l → i < length m → take i l ≡ take i m → take (i + 1) (set l i n) ≡ take (i + 1) (set m i n)
 put-alike i n l m h k e = simp (add-one i) (take-suc-set l i n h ∙ ap (λ (x : List ℕ). x ++ (n ∷ [])) e ∙ sym (take-suc-set m i n k))
 
-pub pairs-alike : (ws : List (List ℕ)) (i : ℕ) (l m : List ℕ) → i + length ws ≤ length l → i + length ws ≤ length m → take i l ≡ take i m → AlikeIn (pairsOf ws i l) (pairsOf ws i m)
+pairs-alike : (ws : List (List ℕ)) (i : ℕ) (l m : List ℕ) → i + length ws ≤ length l → i + length ws ≤ length m → take i l ≡ take i m → AlikeIn (pairsOf ws i l) (pairsOf ws i m)
 unfolding pairsOf
 pairs-alike [] i l m h k e = (refl, omega arith, omega arith, e)
 pairs-alike (w ∷ ws) i l m h k e =
@@ -175,7 +142,7 @@ module _ (l m : List ℕ) where
     unfolding readLine
     read-alike s =
         Cases.either (ltb 4096 (length s)) (λ e. simp e unread-alike)
-        (λ e. simp e (text-alike (wordsOf (take (textLength s) s)) (omega (arith, ltb-false 4096 (length s) e, length-take (textLength s) s, few-words (take (textLength s) s)))))
+        (λ e. simp e (text-alike (wordsOf (take (textLength s) s)) (omega (arith, ltb-false 4096 (length s) e, length-take (textLength s) s, words-few (take (textLength s) s)))))
 
 -- whatever list of 2,048 numbers or more is lent, a line means the same call
 pub means-alike : (s l m : List ℕ) → 2048 ≤ length l → 2048 ≤ length m → asked (readLine s l .list) (readLine s l .command) ≡ asked (readLine s m .list) (readLine s m .command)

@@ -3,7 +3,7 @@ use Prim.Native.Nat.{ℕ, _+_, _^_, _%_}
 use mathlib.Core.List.{List, [], _∷_, _++_}
 use mathlib.Core.Bool.{cond}
 use lib.Dec.{eqb}
-use lib.ListN.{length, replicate, take}
+use lib.ListN.{replicate, take}
 use Rattle.script_lex.specs.Text.{bytesOf}
 use Rattle.script.specs.Line.{readLine}
 use Rattle.script.specs.Wait.{Taken}

@@ -1,7 +1,7 @@
 -- Document 01's example script, and what it prints, byte by byte; and lines of which no answer of a script tells the arguments.
 use Prim.Native.Nat.{ℕ}
 use mathlib.Core.List.{List, [], _∷_}
-use mathlib.Core.Bool.{true, false}
+use mathlib.Core.Bool.{true}
 use lib.IntN.{negsuc}
 use Rattle.arch.specs.declared.Architecture.the-variants.{X86}
 use Rattle.images.specs.declared.TimerBacking.the-variants.{Image}
