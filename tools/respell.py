@@ -16,7 +16,7 @@ import os
 import re
 import sys
 
-TOKEN = re.compile(r'"(?:[^"\\]|\\.)*"|«[^»]*»|[^\s(){}.;,@"«»\[\]\\:`|]+')
+TOKEN = re.compile(r'"(?:[^"\\\n]|\\.)*"|«[^»]*»|[^\s(){}.;,@"«»\[\]\\:`|]+')
 DECLARED = re.compile(r"^\s*(?:(?:unfoldable|abbrev|pub|pattern)\s+)*([a-z][^\s(){}.;,@\"«»\[\]\\:|]*)\s*(?:\{[^}]*\}\s*)?:\s", re.M)
 PART = re.compile(r"([-_]+)")
 CAMEL = re.compile(r"[a-z][a-z0-9₀-₉']*[A-Z]")

@@ -1,1 +1,2 @@
 // No code: agreement of every call, in proofs/.
+#![tactic(auto)]

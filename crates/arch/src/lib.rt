@@ -1,8 +1,9 @@
 // The two architectures of a guest.
+#![tactic(auto)]
 ghost use Rattle.std.specs.Prelude.{◌≡◌};
 ghost use Rattle.arch.specs.Width.{width_of};
 
-#[derive(Drop)]
+#[derive(Clone, Copy)]
 pub enum Architecture {
     X64,
     X86,

@@ -1,4 +1,5 @@
 // Timers set and cancelled.
+#![tactic(auto)]
 ghost use Rattle.std.specs.Prelude.{◌≡◌, ◌+◌, ◌<◌, get_or};
 ghost use Rattle.answers.specs.Outcome.{outcome};
 ghost use Rattle.arming.specs.Arm.{named_elsewhere, new_refusal, former_busy, set_refusal, named, unnamed, setting_of, setting_put, armed, timer_set, same_word, own_origin, own_work, own_queued, withdrawn_own, disarmed, timer_cancelled, timer_set_signed};
@@ -10,7 +11,7 @@ use words::layout;
 pub mod signed;
 
 // What a timer is set to. `absolute` is 0 or 1; `arm` is how many times the timer has been set.
-#[derive(Drop)]
+#[derive(Clone, Copy)]
 pub struct Setting {
     pub due: u64,
     pub absolute: u64,

@@ -1,1 +1,2 @@
 // No code: what each call does to a scheduler's words is in specs/.
+#![tactic(auto)]

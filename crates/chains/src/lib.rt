@@ -1,11 +1,12 @@
 // Records chained by a next index, 0 at the end: the ready queues, the waiters and the DPC queue are such chains.
+#![tactic(auto)]
 ghost use Rattle.std.specs.Prelude.{◌≡◌, get_or};
 ghost use Rattle.chains.specs.Chain.{link_at, first_of, next_of, pushed, unlinked, find_before, removed};
 
 pub mod ready;
 
 // The words that name the first and the last record, 0 where there is none; record n's link stands at link + stride * n.
-#[derive(Drop)]
+#[derive(Clone, Copy)]
 pub struct Chain {
     pub first: u32,
     pub last: u32,

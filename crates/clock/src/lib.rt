@@ -1,13 +1,14 @@
 // Deterministic guest time. Advancing guest time never waits on a host clock.
 //
 // `core` has every call as a function of values; the methods here change a lent clock in place.
+#![tactic(auto)]
 ghost use Rattle.std.specs.Prelude.{◌≡◌};
 ghost use Rattle.clock.specs.Clock as spec;
 
 pub mod core;
 
 #[repr(C)]
-#[derive(Drop)]
+#[derive(Clone, Copy)]
 pub struct GuestClock {
     pub utc_filetime: u64,
     pub uptime_ms: u64,
@@ -19,7 +20,7 @@ pub struct GuestClock {
 }
 
 // Why a call is refused.
-#[derive(Drop)]
+#[derive(Clone, Copy)]
 pub enum ClockError {
     InvalidConfiguration,
     Overflow,
@@ -27,27 +28,27 @@ pub enum ClockError {
 }
 
 // What a call that changes the clock answers.
-#[derive(Drop)]
+#[derive(Clone, Copy)]
 pub enum Done {
     Ok,
     Err(ClockError),
 }
 
 // What a call that reads the clock answers.
-#[derive(Drop)]
+#[derive(Clone, Copy)]
 pub enum Reading {
     Ok(u64),
     Err(ClockError),
 }
 
-#[derive(Drop)]
+#[derive(Clone, Copy)]
 pub enum Created {
     Ok(GuestClock),
     Err(ClockError),
 }
 
 // An answer, and the clock after the call.
-#[derive(Drop)]
+#[derive(Clone, Copy)]
 pub struct Outcome {
     pub answer: Done,
     pub clock: GuestClock,

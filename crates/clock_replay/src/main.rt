@@ -1,5 +1,6 @@
 // Replays a stored sample of clock calls, and counts the steps at which an answer, a value or a word differs from the sample's.
 // `harness/README.md` says what the numbers of a line mean.
+#![tactic(auto)]
 mod decimal;
 mod replay;
 

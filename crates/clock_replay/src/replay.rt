@@ -2,7 +2,7 @@
 use super::decimal;
 use exports::clock_calls;
 
-#[derive(Drop)]
+#[derive(Clone, Copy)]
 pub struct Tally {
     pub steps: u64,
     pub differences: u64,

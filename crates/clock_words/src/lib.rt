@@ -1,6 +1,7 @@
 // The guest clock in seven lent words: UTC, uptime, ticks, offset + 840, MHz, pending cycles, countdown.
 //
 // Words past the seventh are never touched. A word out of its field's range, or missing, makes the clock one out of form.
+#![tactic(auto)]
 ghost use Rattle.core.specs.Prelude.{◌≡◌};
 ghost use Rattle.clock.specs.Numbers.{error_number, refusal_number};
 ghost use Rattle.clock_words.specs.ClockWords.{fitted, offset_at, offset_word, clock_at, put_clock, returned, ended, answered};

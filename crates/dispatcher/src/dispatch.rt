@@ -10,7 +10,7 @@ use chains::ready;
 use words::layout;
 
 // The smallest deadline seen so far, if any.
-#[derive(Drop)]
+#[derive(Clone, Copy)]
 pub struct Due {
     pub some: bool,
     pub at: u64,

@@ -8,7 +8,7 @@ use waits::lists;
 use words::layout;
 
 // `all` and `timed` are 0 or 1; `status` is an exited thread's; from `all` on, 0 for a thread that does not wait.
-#[derive(Drop)]
+#[derive(Clone, Copy)]
 pub struct ThreadView {
     pub id: u64,
     pub priority: u64,
@@ -23,20 +23,20 @@ pub struct ThreadView {
 }
 
 // The reads here refuse nothing; those that first check the form of the words do.
-#[derive(Drop)]
+#[derive(Clone, Copy)]
 pub enum ThreadAnswer {
     Refused(u64),
     Thread(ThreadView),
     None,
 }
 
-#[derive(Drop)]
+#[derive(Clone, Copy)]
 pub struct Place {
     pub kind: u64,
     pub key: u64,
 }
 
-#[derive(Drop)]
+#[derive(Clone, Copy)]
 pub enum PlaceAnswer {
     Refused(u64),
     Object(Place),

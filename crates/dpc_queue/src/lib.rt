@@ -1,4 +1,5 @@
 // Work put last into the DPC queue, and work taken out of it.
+#![tactic(auto)]
 ghost use Rattle.std.specs.Prelude.{◌≡◌};
 ghost use Rattle.dpc_queue.specs.Queue.{raised, origin_put, work_put, queued, accepted, withdrawn};
 
@@ -15,7 +16,7 @@ pub const RUNNING: u64 = 2;
 pub const RETURNING: u64 = 3;
 
 // Who puts the work into the queue: `timer` is 0 for a caller, whose other words are 0, and 1 for a timer.
-#[derive(Drop)]
+#[derive(Clone, Copy)]
 pub struct Origin {
     pub timer: u64,
     pub address: u64,

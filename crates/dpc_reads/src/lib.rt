@@ -1,4 +1,5 @@
 // What is read of DPCs, of the queue, and of the policy.
+#![tactic(auto)]
 ghost use Rattle.std.specs.Prelude.{◌≡◌};
 ghost use Rattle.dpc_reads.specs.Reads.{dpc_numbered, dpc_read, dpcs_at, active_dpc, next_dpc, policy_read, counters_read, stepped, queued_number, queued_dpcs, initializations_read};
 
@@ -6,14 +7,14 @@ use answers::Answer;
 use dpcs::record;
 use words::layout;
 
-#[derive(Drop)]
+#[derive(Clone, Copy)]
 pub enum DpcAnswer {
     Refused(u64),
     None,
     Dpc(images::Dpc),
 }
 
-#[derive(Drop)]
+#[derive(Clone, Copy)]
 pub enum PolicyAnswer {
     Refused(u64),
     Unselected,
@@ -21,7 +22,7 @@ pub enum PolicyAnswer {
     Cpu0Dispatch { first: u64, second: u64 },
 }
 
-#[derive(Drop)]
+#[derive(Clone, Copy)]
 pub struct DpcCounters {
     pub accepted: u64,
     pub duplicates: u64,
@@ -31,7 +32,7 @@ pub struct DpcCounters {
     pub restored: u64,
 }
 
-#[derive(Drop)]
+#[derive(Clone, Copy)]
 pub enum CountersAnswer {
     Refused(u64),
     Counters(DpcCounters),

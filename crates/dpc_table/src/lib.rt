@@ -1,4 +1,5 @@
 // DPCs made and taken out. Both change the numbers of DPCs, and with them the links of the queue.
+#![tactic(auto)]
 ghost use Rattle.std.specs.Prelude.{◌≡◌, ◌≤◌};
 ghost use Rattle.chains.specs.Chain.{next_of};
 ghost use Rattle.dpc_table.specs.Table.{put_idle, put_image, put_dpc, raised_number, number_raised, links_raised, inserted, entered, number_put, number_to, numbered, new_number, link_renewed, links_renewed, relinked, settled, closed_up};
@@ -8,7 +9,7 @@ use dpcs::record;
 use words::layout;
 
 // What a new DPC has beside its address, as the words of a record.
-#[derive(Drop)]
+#[derive(Clone, Copy)]
 pub struct NewDpc {
     pub architecture: u64,
     pub backing: u64,

@@ -1,3 +1,4 @@
 // The DPCs: what a record says, and which DPC an inserted timer has.
+#![tactic(auto)]
 pub mod named;
 pub mod record;

@@ -6,7 +6,7 @@ use dpcs::record;
 use words::layout;
 
 // The counts of accepted and of duplicate work, as an advance would leave them so far.
-#[derive(Drop)]
+#[derive(Clone, Copy)]
 pub struct Counts {
     pub accepted: u64,
     pub duplicates: u64,

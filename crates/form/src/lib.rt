@@ -24,6 +24,7 @@
 //   returns less restorations        counts::returns_pass
 //
 // `timer`, `dpc_records`, `queue` and `counts` are modules of `form_dpc`.
+#![tactic(auto)]
 ghost use Rattle.std.specs.Prelude.{◌≡◌};
 ghost use Rattle.form.specs.Form.{in_form};
 

@@ -158,7 +158,7 @@ fn one_if(w: &[u64], at: usize, phase: u64) -> u64
 }
 
 // Whether every DPC passes; where they do, how many are queued, how many active (running or returning), and how many returning.
-#[derive(Drop)]
+#[derive(Clone, Copy)]
 pub struct Seen {
     pub pass: bool,
     pub queued: u64,

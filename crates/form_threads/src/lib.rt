@@ -1,4 +1,5 @@
 // The threads in form: each record's numbers, who runs, and what the waiting ones wait for.
+#![tactic(auto)]
 ghost use Rattle.std.specs.Prelude.{◌≡◌};
 ghost use Rattle.form_threads.specs.Thread.{has_state, live, bad_state, record_passes, exit_passes, wait_passes, delay_passes, thread_numbers, runs_if_current, waits_for_known, waits_for_each_once, thread_passes, threads_seen, one_if};
 
@@ -158,7 +159,7 @@ fn one_if(w: &[u64], id: u64, state: u64) -> u64
 }
 
 // Whether every thread passes; where they do, how many are ready and how many wait.
-#[derive(Drop)]
+#[derive(Clone, Copy)]
 pub struct Seen {
     pub pass: bool,
     pub ready: u64,

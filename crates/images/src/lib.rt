@@ -1,4 +1,5 @@
 // Timers and DPCs as the guest's memory has them: where one may stand, and its bytes.
+#![tactic(auto)]
 pub mod field;
 
 ghost use Rattle.std.specs.Prelude.{◌≡◌, ◌≤◌, if◌then◌else◌};
@@ -47,7 +48,7 @@ const ARGUMENTS: usize = 5;
 pub const DPC_HEAD: [u8; 2] = *b"\x13\x01";
 
 // The memory that a timer or a DPC stands in.
-#[derive(Drop)]
+#[derive(Clone, Copy)]
 pub enum TimerBacking {
     Image {
         base: u64,
@@ -60,7 +61,7 @@ pub enum TimerBacking {
     },
 }
 
-#[derive(Drop)]
+#[derive(Clone, Copy)]
 pub struct Timer {
     pub address: u64,
     pub architecture: Architecture,
@@ -77,7 +78,7 @@ pub struct Timer {
 }
 
 // Who put a DPC's work into the queue.
-#[derive(Drop)]
+#[derive(Clone, Copy)]
 pub enum DpcOrigin {
     Caller,
     Timer {
@@ -90,7 +91,7 @@ pub enum DpcOrigin {
     },
 }
 
-#[derive(Drop)]
+#[derive(Clone, Copy)]
 pub struct DpcWork {
     pub sequence: u64,
     pub first: u64,
@@ -98,7 +99,7 @@ pub struct DpcWork {
     pub origin: DpcOrigin,
 }
 
-#[derive(Drop)]
+#[derive(Clone, Copy)]
 pub enum DpcPhase {
     Idle,
     Queued(DpcWork),
@@ -106,7 +107,7 @@ pub enum DpcPhase {
     Returning(DpcWork),
 }
 
-#[derive(Drop)]
+#[derive(Clone, Copy)]
 pub struct Dpc {
     pub address: u64,
     pub architecture: Architecture,

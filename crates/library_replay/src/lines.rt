@@ -5,7 +5,7 @@ use replay_state::{reads, show};
 use script_lex::lex;
 
 // How many bytes of the present line have come, its number, how often its call is made, and how many mutexes are read.
-#[derive(Drop)]
+#[derive(Clone, Copy)]
 pub struct Place {
     pub used: usize,
     pub number: u64,

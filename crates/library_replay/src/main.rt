@@ -1,5 +1,6 @@
 // Replays stored lists of calls through the exported functions. After each call its answer is written, and below it what the reads now answer otherwise than before.
 // `harness/README.md` says what the lines mean.
+#![tactic(auto)]
 mod lines;
 
 use libc::STDIN_FILENO;

@@ -135,23 +135,23 @@ new_work q first second o = record { sequence = q.counters.accepted + 1; first =
 -- "Insert and expiry put work last, an acceptance ..
 unfoldable pub accepted : Dpcs → ℕ → ℕ → ℕ → DpcOrigin → Dpcs
 accepted q a first second o =
-    record { table = rephased q.table a (Queued (newWork q first second o)); queue = q.queue ++ (a ∷ []); counters = oneAccepted q.counters }
+    record { table = rephased q.table a (Queued (new_work q first second o)); queue = q.queue ++ (a ∷ []); counters = one_accepted q.counters }
 
 -- .. or at queued work count a duplicate, first arguments kept; ..
 unfoldable pub duplicated : Dpcs → Dpcs
-duplicated q = record { table = q.table; queue = q.queue; counters = oneDuplicate q.counters }
+duplicated q = record { table = q.table; queue = q.queue; counters = one_duplicate q.counters }
 
 -- .. remove and cancel take it out, a removal; ..
 unfoldable pub withdrawn : Dpcs → ℕ → Dpcs
-withdrawn q a = record { table = rephased q.table a Idle; queue = without a q.queue; counters = oneRemoved q.counters }
+withdrawn q a = record { table = rephased q.table a Idle; queue = without a q.queue; counters = one_removed q.counters }
 
 -- .. start makes the head running, ..
 unfoldable pub started : Dpcs → ℕ → DpcWork → Dpcs
-started q a w = record { table = rephased q.table a (Running w); queue = rest q.queue; counters = oneStarted q.counters }
+started q a w = record { table = rephased q.table a (Running w); queue = rest q.queue; counters = one_started q.counters }
 
 -- .. return makes it returning, ..
 unfoldable pub returned : Dpcs → ℕ → DpcWork → Dpcs
-returned q a w = record { table = rephased q.table a (Returning w); queue = q.queue; counters = oneReturned q.counters }
+returned q a w = record { table = rephased q.table a (Returning w); queue = q.queue; counters = one_returned q.counters }
 
 -- .. restoration ends it."
 unfoldable pub restored : Dpcs → ℕ → Dpcs

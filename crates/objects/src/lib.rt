@@ -1,4 +1,5 @@
 // Mutexes, events and timers in one table that rises by key; DPCs in another, that rises by address.
+#![tactic(auto)]
 ghost use Rattle.std.specs.Prelude.{◌≡◌};
 ghost use Rattle.objects.specs.Objects.{objects_base, dpcs_base, object_count, found_at, object_found, dpc_found, place_of, collides, full, put_object, inserted, entered};
 
@@ -14,7 +15,7 @@ pub const TIMER: u64 = 2;
 pub const THREAD: u64 = 3;
 
 // What a mutex or an event has beside its key. `owner` is 0 for none.
-#[derive(Drop)]
+#[derive(Clone, Copy)]
 pub struct Object {
     pub kind: u64,
     pub manual: u64,

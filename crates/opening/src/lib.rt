@@ -1,4 +1,5 @@
 // Opening a scheduler in lent words.
+#![tactic(auto)]
 ghost use Rattle.std.specs.Prelude.{◌≡◌, false};
 ghost use Rattle.words.specs.Layout as at;
 ghost use Rattle.answers.specs.Outcome.{outcome};

@@ -1,4 +1,5 @@
 // Why a line of a script cannot be read.
+#![tactic(auto)]
 ghost use Rattle.std.specs.Prelude.{◌≡◌, ◌≤◌, length};
 ghost use Rattle.script_lex.specs.Words.{words_at};
 ghost use Rattle.reasons.specs.Reasons.{is_fine, continued, named_reason, clock_reason, words_reason, reason_of};
@@ -9,7 +10,7 @@ mod arguments;
 mod table;
 
 // Where a reason has a place, the word of that number is meant, the first has 0; where it has a kind, that is the letter of what is wanted there.
-#[derive(Drop)]
+#[derive(Clone, Copy)]
 pub enum Reason {
     Fine,
     // The line has more than 4,096 bytes.

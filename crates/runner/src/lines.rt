@@ -5,7 +5,7 @@ ghost use Rattle.runner.specs.Line.{answered_as, answered};
 use super::session;
 
 // The place behind the answer's line, and the bench after it.
-#[derive(Drop)]
+#[derive(Clone, Copy)]
 pub struct Answered {
     pub end: usize,
     pub session: session::Session,

@@ -17,14 +17,14 @@ pub const OBJECTS: u64 = 64;
 pub const DPCS: u64 = 64;
 
 // Whether an `open` has been accepted, whether a `clock new` has, and the clock.
-#[derive(Drop)]
+#[derive(Clone, Copy)]
 pub struct Session {
     pub opened: bool,
     pub timed: bool,
     pub clock: GuestClock,
 }
 
-#[derive(Drop)]
+#[derive(Clone, Copy)]
 pub struct Step {
     pub answer: Answer,
     pub session: Session,

@@ -8,7 +8,7 @@ use script_lex::lex;
 use script_lex::lex::Number;
 
 // How many numbers the pairs are.
-#[derive(Drop)]
+#[derive(Clone, Copy)]
 pub enum Pairs {
     Unread,
     Count(usize),

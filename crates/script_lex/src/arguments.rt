@@ -7,19 +7,19 @@ use super::command::Command;
 use super::lex;
 use super::lex::Number;
 
-#[derive(Drop)]
+#[derive(Clone, Copy)]
 pub enum Flag {
     Unread,
     Read(bool),
 }
 
-#[derive(Drop)]
+#[derive(Clone, Copy)]
 pub enum Two {
     Unread,
     Read(u64, u64),
 }
 
-#[derive(Drop)]
+#[derive(Clone, Copy)]
 pub enum Three {
     Unread,
     Read(u64, u64, u64),

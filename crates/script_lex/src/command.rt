@@ -2,7 +2,7 @@
 use arch::Architecture;
 use images::TimerBacking;
 
-#[derive(Drop)]
+#[derive(Clone, Copy)]
 pub enum Command {
     // The line cannot be read.
     Unread,

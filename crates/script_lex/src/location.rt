@@ -8,19 +8,19 @@ use super::lex::Number;
 use arch::Architecture;
 use images::TimerBacking;
 
-#[derive(Drop)]
+#[derive(Clone, Copy)]
 pub enum Arch {
     Unread,
     Read(Architecture),
 }
 
-#[derive(Drop)]
+#[derive(Clone, Copy)]
 pub enum Backing {
     Unread,
     Read(TimerBacking),
 }
 
-#[derive(Drop)]
+#[derive(Clone, Copy)]
 pub enum Location {
     Unread,
     Read {

@@ -1,4 +1,5 @@
 // A script read and answered: one call a line, from the file that the first argument names or from standard input, and one line of answer for each.
+#![tactic(auto)]
 use libc::{STDERR_FILENO, STDIN_FILENO, STDOUT_FILENO};
 
 pub fn tell_lost() {

@@ -1,4 +1,5 @@
 // Replays stored scripts from standard input: each is run on a bench of its own, and a line `#` ends it and is written as it is.
+#![tactic(auto)]
 ghost use Rattle.script_bytes.specs.Bytes.{Within};
 
 use libc::{STDIN_FILENO, STDOUT_FILENO};

@@ -1,4 +1,5 @@
 // Tables of records of 32 words whose first words, the keys, rise: search by halves, room made for a record, and marked records taken out.
+#![tactic(auto)]
 ghost use Rattle.std.specs.Prelude.{◌≡◌, ◌+◌, ◌≤◌, ◌<◌};
 ghost use Rattle.tables.specs.Compact.{is_marked, copied, moved, kept, kept_to, compacted, compacted_to};
 ghost use Rattle.tables.specs.Table.{key_at, narrowed, position, raised, gap_opened};
@@ -6,7 +7,7 @@ ghost use Rattle.tables.specs.Table.{key_at, narrowed, position, raised, gap_ope
 use words::layout;
 
 // The part of a table that a search has left: `size` records from `from` on.
-#[derive(Drop)]
+#[derive(Clone, Copy)]
 pub struct Part {
     pub from: u64,
     pub size: u64,

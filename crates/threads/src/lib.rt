@@ -1,4 +1,5 @@
 // A thread's record in the words: its state, and what it waits for.
+#![tactic(auto)]
 ghost use Rattle.std.specs.Prelude.{◌≡◌, ◌≤◌};
 ghost use Rattle.threads.specs.Thread.{thread_of, put_thread, known, thread_count, count_of, all_of, places_at, filled, recorded, put_places, put_terms, put_wait, no_wait};
 
@@ -20,7 +21,7 @@ pub const TIMEOUT: u64 = 1;
 
 pub const SATISFIED: u64 = 2;
 
-#[derive(Drop)]
+#[derive(Clone, Copy)]
 pub struct Thread {
     pub priority: u64,
     pub state: u64,
@@ -29,7 +30,7 @@ pub struct Thread {
 }
 
 // A wait for any or all of `count` objects: of 64 places, each a kind and a key, the first `count`. A delay has none.
-#[derive(Drop)]
+#[derive(Clone, Copy)]
 pub struct Wait {
     pub all: u64,
     pub timed: u64,

@@ -1,16 +1,17 @@
 // Arithmetic past 64 bits: exact products in two words, and sums and products that say when they do not fit.
+#![tactic(auto)]
 ghost use Rattle.std.specs.Prelude.{◌≡◌, ◌+◌, ◌*◌, ◌/◌, ◌%◌, ◌^◌};
 ghost use Rattle.wide.specs.Checked.{checked};
 
 // The number hi * 2^64 + lo.
-#[derive(Drop)]
+#[derive(Clone, Copy)]
 pub struct Wide {
     pub hi: u64,
     pub lo: u64,
 }
 
 // A number that fits 64 bits, or that there is none.
-#[derive(Drop)]
+#[derive(Clone, Copy)]
 pub enum Checked {
     Value(u64),
     Overflow,

@@ -1,4 +1,6 @@
 // The lent words: total reads and writes, the bits of the ready word, and where things stand (`layout`).
+#![tactic(auto)]
+
 pub mod layout;
 
 ghost use Rattle.std.specs.Prelude.{◌≡◌, ◌+◌, ◌≤◌, get_or, set};
