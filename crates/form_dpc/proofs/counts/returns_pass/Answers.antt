@@ -1,0 +1,4 @@
+use Rattle.form_dpc.proofs.counts.returns_pass.Goals as goal
+
+pub returns : goal.returns
+returns c = cc

@@ -1,0 +1,14 @@
+use mathlib.Core.Path.{◌≡◌, ap}
+use native.Mathlib.Omega.{arith}
+use Rattle.threads.specs.declared.Wait.{Wait}
+use Rattle.threads.specs.Thread.{no_wait}
+use Rattle.opening.specs.Open.{started}
+use Rattle.opening.proofs.start.Goals as goal
+
+pub write_wait-requires : goal.write_wait-requires
+unfolding no_wait
+write_wait-requires c = let e : c.no_wait.result.count ≡ 0 = ap (λ (x : Wait). x.count) c.no_wait.ensures in omega arith
+
+pub returns : goal.returns
+unfolding started
+returns c = cc

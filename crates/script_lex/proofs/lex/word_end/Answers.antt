@@ -1,0 +1,16 @@
+use mathlib.Core.Path.{refl, sym, ◌∙◌}
+use Prim.Native.Nat.{◌-◌}
+use Rattle.script_lex.proofs.WordLaws.{end-end, end-stop, end_more}
+use Rattle.script_lex.proofs.lex.word_end.Goals as goal
+
+pub loop-at-init : goal.loop-at-init
+loop-at-init c = refl
+
+pub returns-then-is_blank : goal.returns-then-is_blank
+returns-then-is_blank c = sym (end-stop c.args.line.now c.loop-at.at c.loop-at-test.true (sym c.is_blank.ensures ∙ c.if-is_blank.true)) ∙ c.loop-at.invariant
+
+pub loop-at-preserved : goal.loop-at-preserved
+loop-at-preserved c = sym (end_more c.args.line.now c.loop-at.at c.loop-at-test.true (sym c.is_blank.ensures ∙ c.if-is_blank.false)) ∙ c.loop-at.invariant
+
+pub returns : goal.returns
+returns c = sym (end-end c.args.line.now c.loop-at.at c.loop-at-test.false) ∙ c.loop-at.invariant

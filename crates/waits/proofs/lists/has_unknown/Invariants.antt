@@ -1,0 +1,10 @@
+use mathlib.Core.Path.{◌≡◌}
+use Prim.Native.Nat.{◌+◌, ◌≤◌, ◌-◌}
+use Rattle.waits.specs.Lists.{unknown_in}
+use Rattle.waits.proofs.lists.has_unknown.Given as goal
+
+abbrev pub invariant-loop-left : goal.invariant-loop-left
+invariant-loop-left l = (l.i + l.left ≤ 64) × (unknown_in l.left l.w l.src l.at l.i ≡ unknown_in l.n l.w l.src l.at 0)
+
+abbrev pub decreases-loop-left : goal.decreases-loop-left
+decreases-loop-left l = l.left
