@@ -1,5 +1,5 @@
 use mathlib.Core.Path.{◌∙◌, sym}
-use borrow.Author.Tests.{lt-ltb, le-ltb, not-true, not-false}
+use borrow.Author.Tests.{lt-ltb, le-ltb}
 use Rattle.form_dpc.specs.Place.{located}
 use Rattle.form_dpc.proofs.location_passes.Goals as goal
 
@@ -13,8 +13,8 @@ returns-then-kind-gt1 c = simp (← c.get_in-n.ensures, le-ltb _ _ c.if-n-gt1.fa
 
 pub returns-then-not-mapped_passes : goal.returns-then-not-mapped_passes
 unfolding located
-returns-then-not-mapped_passes c = simp (← c.get_in-n.ensures, le-ltb _ _ c.if-n-gt1.false, ← c.get_in-kind.ensures, le-ltb _ _ c.if-kind-gt1.false, ← c.get_in-mapped.ensures, sym c.mapped_passes.ensures ∙ not-true _ c.if-not-mapped_passes.true)
+returns-then-not-mapped_passes c = simp (← c.get_in-n.ensures, le-ltb _ _ c.if-n-gt1.false, ← c.get_in-kind.ensures, le-ltb _ _ c.if-kind-gt1.false, ← c.get_in-mapped.ensures, sym c.mapped_passes.ensures ∙ c.if-not-mapped_passes.true)
 
 pub returns : goal.returns
 unfolding located
-returns c = simp (← c.get_in-n.ensures, le-ltb _ _ c.if-n-gt1.false, ← c.get_in-kind.ensures, le-ltb _ _ c.if-kind-gt1.false, ← c.get_in-mapped.ensures, sym c.mapped_passes.ensures ∙ not-false _ c.if-not-mapped_passes.false) (cc)
+returns c = simp (← c.get_in-n.ensures, le-ltb _ _ c.if-n-gt1.false, ← c.get_in-kind.ensures, le-ltb _ _ c.if-kind-gt1.false, ← c.get_in-mapped.ensures, sym c.mapped_passes.ensures ∙ c.if-not-mapped_passes.false) (cc)

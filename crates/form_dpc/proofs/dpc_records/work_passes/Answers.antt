@@ -1,5 +1,5 @@
 use mathlib.Core.Path.{◌∙◌, sym}
-use borrow.Author.Tests.{eq-eqb, ne_eqb, lt-ltb, le-ltb, not-true, not-false}
+use borrow.Author.Tests.{eq-eqb, ne_eqb, lt-ltb, le-ltb}
 use Rattle.form_dpc.specs.Dpc.{work_passes}
 use Rattle.form_dpc.proofs.dpc_records.work_passes.Goals as goal
 
@@ -13,8 +13,8 @@ returns-then-get_in-gt1 c = simp (← c.get_in.ensures, ne_eqb _ _ c.if-get_in-e
 
 pub returns-then-not-origin_passes : goal.returns-then-not-origin_passes
 unfolding work_passes
-returns-then-not-origin_passes c = simp (← c.get_in.ensures, ne_eqb _ _ c.if-get_in-eq-IDLE.false, ← c.get_in-2.ensures, le-ltb _ _ c.if-get_in-gt1.false, sym c.origin_passes.ensures ∙ not-true _ c.if-not-origin_passes.true)
+returns-then-not-origin_passes c = simp (← c.get_in.ensures, ne_eqb _ _ c.if-get_in-eq-IDLE.false, ← c.get_in-2.ensures, le-ltb _ _ c.if-get_in-gt1.false, sym c.origin_passes.ensures ∙ c.if-not-origin_passes.true)
 
 pub returns : goal.returns
 unfolding work_passes
-returns c = simp (← c.get_in.ensures, ne_eqb _ _ c.if-get_in-eq-IDLE.false, ← c.get_in-2.ensures, le-ltb _ _ c.if-get_in-gt1.false, sym c.origin_passes.ensures ∙ not-false _ c.if-not-origin_passes.false) (cc)
+returns c = simp (← c.get_in.ensures, ne_eqb _ _ c.if-get_in-eq-IDLE.false, ← c.get_in-2.ensures, le-ltb _ _ c.if-get_in-gt1.false, sym c.origin_passes.ensures ∙ c.if-not-origin_passes.false) (cc)
