@@ -1,0 +1,11 @@
+use Prim.Native.Nat.{◌+◌, ◌≤◌}
+use mathlib.Core.Path.{◌≡◌}
+use Rattle.timers.specs.Record.{some_in}
+use Rattle.timers.specs.Release.{any_dpc_held, dpc_held}
+use Rattle.timers.proofs.release.any_dpc_held.Given as goal
+
+abbrev pub invariant-loop-left : goal.invariant-loop-left
+invariant-loop-left l = (l.i + l.left ≤ 4096) × (some_in l.left (λ place. dpc_held l.w place l.address l.size) l.base l.i ≡ any_dpc_held l.w l.address l.size)
+
+abbrev pub decreases-loop-left : goal.decreases-loop-left
+decreases-loop-left l = l.left

@@ -1,0 +1,11 @@
+use Prim.Native.Nat.{◌+◌, ◌≤◌}
+use mathlib.Core.Path.{◌≡◌}
+use Rattle.timers.specs.Record.{some_in}
+use Rattle.timers.specs.Release.{any_timer_held, timer_held}
+use Rattle.timers.proofs.release.any_timer_held.Given as goal
+
+abbrev pub invariant-loop-left : goal.invariant-loop-left
+invariant-loop-left l = (l.i + l.left ≤ 4096) × (some_in l.left (λ place. timer_held l.w place l.address l.size) l.base l.i ≡ any_timer_held l.w l.address l.size)
+
+abbrev pub decreases-loop-left : goal.decreases-loop-left
+decreases-loop-left l = l.left
