@@ -15,16 +15,16 @@ returns-then-id-ne0 c = simp (← c.get.ensures, le-ltb _ _ c.if-out-get.false, 
 
 pub returns-then-p-ne0 : goal.returns-then-p-ne0
 unfolding dispatched
-returns-then-p-ne0 c = simp (← c.get.ensures, le-ltb _ _ c.if-out-get.false, ← c.get-2.ensures, eq-eqb _ _ c.if-id-ne0.false, ← c.get-2.ensures, ← c.top_bit-p.ensures, ne_eqb _ _ c.if-p-ne0.true) (ap (λ (o : Outcome). told o.answer o.words c.args.out.now) c.run_first.ensures)
+returns-then-p-ne0 c = simp (← c.get.ensures, le-ltb _ _ c.if-out-get.false, ← c.get-id.ensures, eq-eqb _ _ c.if-id-ne0.false, ← c.get-2.ensures, ← c.top_bit-p.ensures, ne_eqb _ _ c.if-p-ne0.true) (ap (λ (o : Outcome). told o.answer o.words c.args.out.now) c.run_first.ensures)
 
 pub returns-then-d : goal.returns-then-d
 unfolding dispatched
-returns-then-d c = simp (← c.get.ensures, le-ltb _ _ c.if-out-get.false, ← c.get-2.ensures, eq-eqb _ _ c.if-id-ne0.false, ← c.get-2.ensures, ← c.top_bit-p.ensures, eq-eqb _ _ c.if-p-ne0.false, ← c.next_time-d.ensures, c.if-d.true)
+returns-then-d c = simp (← c.get.ensures, le-ltb _ _ c.if-out-get.false, ← c.get-id.ensures, eq-eqb _ _ c.if-id-ne0.false, ← c.get-2.ensures, ← c.top_bit-p.ensures, eq-eqb _ _ c.if-p-ne0.false, ← c.next_time-d.ensures, c.if-d.true)
 
 pub returns-then-n-eq0 : goal.returns-then-n-eq0
 unfolding dispatched
-returns-then-n-eq0 c = simp (← c.get.ensures, le-ltb _ _ c.if-out-get.false, ← c.get-2.ensures, eq-eqb _ _ c.if-id-ne0.false, ← c.get-2.ensures, ← c.top_bit-p.ensures, eq-eqb _ _ c.if-p-ne0.false, ← c.next_time-d.ensures, c.if-d.false, ← c.list_waiting-n.ensures.0, eq-eqb _ _ c.if-n-eq0.true) (cc)
+returns-then-n-eq0 c = simp (← c.get.ensures, le-ltb _ _ c.if-out-get.false, ← c.get-id.ensures, eq-eqb _ _ c.if-id-ne0.false, ← c.get-2.ensures, ← c.top_bit-p.ensures, eq-eqb _ _ c.if-p-ne0.false, ← c.next_time-d.ensures, c.if-d.false, ← c.list_waiting-n.ensures.0, eq-eqb _ _ c.if-n-eq0.true) (cc)
 
 pub returns : goal.returns
 unfolding dispatched
-returns c = simp (← c.get.ensures, le-ltb _ _ c.if-out-get.false, ← c.get-2.ensures, eq-eqb _ _ c.if-id-ne0.false, ← c.get-2.ensures, ← c.top_bit-p.ensures, eq-eqb _ _ c.if-p-ne0.false, ← c.next_time-d.ensures, c.if-d.false, ← c.list_waiting-n.ensures.0, ne_eqb _ _ c.if-n-eq0.false) (cc)
+returns c = simp (← c.get.ensures, le-ltb _ _ c.if-out-get.false, ← c.get-id.ensures, eq-eqb _ _ c.if-id-ne0.false, ← c.get-2.ensures, ← c.top_bit-p.ensures, eq-eqb _ _ c.if-p-ne0.false, ← c.next_time-d.ensures, c.if-d.false, ← c.list_waiting-n.ensures.0, ne_eqb _ _ c.if-n-eq0.false) (cc)
