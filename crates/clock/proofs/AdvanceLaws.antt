@@ -1,5 +1,5 @@
 -- An advance that is accepted, as plain ranges.
-use Rattle.std.proofs.Common.{◌≡◌, ℕ, ◌+◌, ◌-◌, ◌/◌, ◌^◌, ◌<◌, ◌≤◌, true, false, arith, ltb-true, le-ltb, leb-true}
+use Rattle.std.proofs.Common.{◌≡◌, ℕ, ◌+◌, ◌/◌, ◌^◌, ◌<◌, ◌≤◌, true, false, arith, ltb-true, le-ltb, leb-true}
 use Rattle.clock.specs.declared.GuestClock.{GuestClock}
 use Rattle.clock.specs.Clock.{most_uptime, fraction, advances}
 use Rattle.clock.proofs.FormLaws.{both}

@@ -1,5 +1,5 @@
 -- What every call keeps: a clock in form stays in form, its ticks never fall, and a refused call changes nothing, but for `instruction`.
-use Rattle.std.proofs.Common.{◌≡◌, ℕ, ◌+◌, ◌-◌, ◌*◌, ◌/◌, ◌%◌, ◌^◌, ◌≤◌, Bool, true, false, cond, ◌&&◌, eqb, ltb, ℤ, sym, refl, ◌∙◌, true≢false, le_trans, le_refl, arith, lit≤}
+use Rattle.std.proofs.Common.{◌≡◌, ℕ, ◌+◌, ◌-◌, ◌*◌, ◌/◌, ◌%◌, ◌^◌, ◌≤◌, Bool, true, false, cond, ◌&&◌, eqb, ltb, ℤ, refl, true≢false, le_trans, le_refl, arith, lit≤}
 use borrow.Author.Tests.{eqb-false}
 use Rattle.clock.specs.declared.GuestClock.{GuestClock}
 use Rattle.clock.specs.declared.ClockError.{ClockError}

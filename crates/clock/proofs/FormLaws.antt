@@ -2,7 +2,7 @@
 use Rattle.std.proofs.Common.{◌≡◌, ℕ, ◌<◌, ◌≤◌, Bool, true, false, not, ◌&&◌, ltb, leb, ℤ, pos, negsuc, sym, refl, ◌∙◌, ltb-false, ltb-true, lt-ltb, le-leb, leb-true}
 use mathlib.Core.Bool.{false≢true}
 use lib.Signed.{lt_z, le_z}
-use borrow.Author.Tests.{lt-leb, not-true, not-false}
+use borrow.Author.Tests.{lt-leb}
 use Rattle.clock.specs.declared.GuestClock.{GuestClock}
 use Rattle.clock.specs.declared.ClockError.TheVariants.{OutOfForm}
 use Rattle.clock.specs.declared.Outcome.{Outcome}
@@ -69,30 +69,30 @@ facts-form c f =
       f.offset,
     )
 
--- the two sides of `if !test(..)`, of what the call ensures of its result
-pub held : {r test : Bool} → r ≡ test → not r ≡ false → test ≡ true
-held e t = sym e ∙ not-false _ t
+-- the two sides of a test, of what the call ensures of its result
+pub held : {r test : Bool} → r ≡ test → r ≡ true → test ≡ true
+held e t = sym e ∙ t
 
-pub failed : {r test : Bool} → r ≡ test → not r ≡ true → test ≡ false
-failed e t = sym e ∙ not-true _ t
+pub failed : {r test : Bool} → r ≡ test → r ≡ false → test ≡ false
+failed e t = sym e ∙ t
 
--- and of `if !in_form(c)`
+-- and of the test of a clock's form
 module _ (c : GuestClock) {r : Bool} (e : r ≡ in_form c) where
-  pub form_of : not r ≡ false → InForm c
+  pub form_of : r ≡ true → InForm c
   form_of t = form-facts c (held e t)
 
-  pub kept_out : {x : Outcome} (o : Outcome) → not r ≡ true → x ≡ refused c OutOfForm → x ≡ when_in_form c o
+  pub kept_out : {x : Outcome} (o : Outcome) → r ≡ false → x ≡ refused c OutOfForm → x ≡ when_in_form c o
   unfolding when_in_form
   kept_out o t p = simp (failed e t) p
 
-  pub let-in : {x o : Outcome} → not r ≡ false → x ≡ o → x ≡ when_in_form c o
+  pub let-in : {x o : Outcome} → r ≡ true → x ≡ o → x ≡ when_in_form c o
   unfolding when_in_form
   let-in t p = simp (held e t) p
 
-  pub read_out : (x : Reading) → not r ≡ true → reading.Err OutOfForm ≡ read_in_form c x
+  pub read_out : (x : Reading) → r ≡ false → reading.Err OutOfForm ≡ read_in_form c x
   unfolding read_in_form
   read_out x t = simp (failed e t)
 
-  pub read-in : {x y : Reading} → not r ≡ false → x ≡ y → x ≡ read_in_form c y
+  pub read-in : {x y : Reading} → r ≡ true → x ≡ y → x ≡ read_in_form c y
   unfolding read_in_form
   read-in t p = simp (held e t) p

@@ -2,5 +2,4 @@ pub mod CheckedLaws
 pub mod FormLaws
 pub mod AdvanceLaws
 pub mod ClockLaws
-pub mod Lent
 pub mod PassingLaws

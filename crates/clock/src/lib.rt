@@ -1,11 +1,12 @@
 // Deterministic guest time. Advancing guest time never waits on a host clock.
 //
-// `core` has every call as a function of values; the methods here change a lent clock in place.
+// `by_value` has every call as a function of values; the methods here change a lent clock in place.
 #![tactic(auto)]
+
 ghost use Rattle.std.specs.Prelude.{◌≡◌};
 ghost use Rattle.clock.specs.Clock as spec;
 
-pub mod core;
+pub mod by_value;
 
 #[repr(C)]
 #[derive(Clone, Copy)]
@@ -58,7 +59,7 @@ impl GuestClock {
     pub fn instruction(&mut self) -> Done
         ensures { (result ≡ (spec.instruction self.old).answer) × (self.new ≡ (spec.instruction self.old).clock) }
     {
-        let after = core::instruction(*self);
+        let after = by_value::instruction(*self);
         *self = after.clock;
         after.answer
     }
@@ -66,7 +67,7 @@ impl GuestClock {
     pub fn advance_100ns(&mut self, ticks: u64) -> Done
         ensures { (result ≡ (spec.advance100ns self.old ticks).answer) × (self.new ≡ (spec.advance100ns self.old ticks).clock) }
     {
-        let after = core::advance_100ns(*self, ticks);
+        let after = by_value::advance_100ns(*self, ticks);
         *self = after.clock;
         after.answer
     }
@@ -74,7 +75,7 @@ impl GuestClock {
     pub fn advance_microseconds(&mut self, amount: u64) -> Done
         ensures { (result ≡ (spec.advance_microseconds self.old amount).answer) × (self.new ≡ (spec.advance_microseconds self.old amount).clock) }
     {
-        let after = core::advance_microseconds(*self, amount);
+        let after = by_value::advance_microseconds(*self, amount);
         *self = after.clock;
         after.answer
     }
@@ -82,7 +83,7 @@ impl GuestClock {
     pub fn advance_milliseconds(&mut self, amount: u32) -> Done
         ensures { (result ≡ (spec.advance_milliseconds self.old amount).answer) × (self.new ≡ (spec.advance_milliseconds self.old amount).clock) }
     {
-        let after = core::advance_milliseconds(*self, amount);
+        let after = by_value::advance_milliseconds(*self, amount);
         *self = after.clock;
         after.answer
     }
@@ -90,7 +91,7 @@ impl GuestClock {
     pub fn flush_cycles(&mut self) -> Done
         ensures { (result ≡ (spec.flush_cycles self.old).answer) × (self.new ≡ (spec.flush_cycles self.old).clock) }
     {
-        let after = core::flush_cycles(*self);
+        let after = by_value::flush_cycles(*self);
         *self = after.clock;
         after.answer
     }
@@ -98,7 +99,7 @@ impl GuestClock {
     pub fn observe(&mut self) -> Done
         ensures { (result ≡ (spec.observe self.old).answer) × (self.new ≡ (spec.observe self.old).clock) }
     {
-        let after = core::observe(*self);
+        let after = by_value::observe(*self);
         *self = after.clock;
         after.answer
     }
@@ -106,18 +107,18 @@ impl GuestClock {
     pub fn qpc(&self) -> Reading
         ensures { result ≡ spec.qpc self.now }
     {
-        core::qpc(*self)
+        by_value::qpc(*self)
     }
 
     pub fn tick64(&self) -> Reading
         ensures { result ≡ spec.tick64 self.now }
     {
-        core::tick64(*self)
+        by_value::tick64(*self)
     }
 
     pub fn tsc(&self) -> Reading
         ensures { result ≡ spec.tsc self.now }
     {
-        core::tsc(*self)
+        by_value::tsc(*self)
     }
 }

@@ -1,11 +1,11 @@
 -- The offset and its word: minutes from -840 to 840 are the words from 0 to 1680.
-use Rattle.core.specs.Prelude.{◌≡◌, ℕ, suc, ◌+◌, ◌-◌, ◌^◌, ◌<◌, ◌≤◌, Bool, true, false, cond, not, T, ltb, leb, ℤ, pos, negsuc, ◌+ℤ◌, ◌-ℤ◌, nat_abs}
+use Rattle.std.proofs.Common.{◌≡◌, ℕ, suc, ◌+◌, ◌-◌, ◌^◌, ◌<◌, ◌≤◌, Bool, true, false, cond, T, ltb, leb, ℤ, pos, negsuc, ◌+ℤ◌, ◌-ℤ◌, nat_abs}
 use mathlib.Core.Path.{refl, sym, ap, ◌∙◌}
 use mathlib.Core.Bool.{false≢true}
 use native.Mathlib.Omega.{arith}
-use borrow.Author.Tests.{ltb-true, ltb-false, lt-ltb, le-ltb, leb-true, le-leb, not-true, not-false}
+use borrow.Author.Tests.{ltb-true, ltb-false, lt-ltb, le-ltb, leb-true, le-leb}
 use lib.Dec.{lit<}
-use lib.Signed.{mag, non_neg}
+use lib.Signed.{non_neg}
 use mir.Syntax.{w32, w64}
 use mir.Val.{Fits, SFits, to_z, of_z}
 use mir.Facts.{to_z-of_z}
@@ -53,27 +53,27 @@ sum_is (negsuc n) e =
     (simp (le-ltb 840 (suc n) (let z : suc n ≤ 840 = omega arith in z)) (ap pos (let z : 840 - suc n ≡ 839 - n = omega arith in z)), omega arith)
 
 -- the code's test and its sum: `r` is what the test of the minutes answered
-module _ (z : ℤ) (h : mag z < 2 ^ 31) {r : Bool} (tested : r ≡ offset_in_range (to_z w32 (of_z w32 z))) where
+module _ (z : ℤ) (h : SFits w32 z) {r : Bool} (tested : r ≡ offset_in_range (to_z w32 (of_z w32 z))) where
   same : to_z w32 (of_z w32 z) ≡ z
-  same = to_z-of_z (record { sfits = h })
+  same = to_z-of_z h
 
-  pub out_of_range : not r ≡ true → 0 ≡ offset_word z
+  pub out_of_range : r ≡ false → 0 ≡ offset_word z
   unfolding offset_word
-  out_of_range t = simp (simp same at (sym tested ∙ not-true r t))
+  out_of_range t = simp (simp same at (sym tested ∙ t))
 
-  within : not r ≡ false → offset_in_range z ≡ true
-  within t = simp same at (sym tested ∙ not-false r t)
+  within : r ≡ true → offset_in_range z ≡ true
+  within t = simp same at (sym tested ∙ t)
 
-  pub sum_fits : not r ≡ false → SFits w32 (to_z w32 (of_z w32 z) +ℤ pos 840)
+  pub sum_fits : r ≡ true → SFits w32 (to_z w32 (of_z w32 z) +ℤ pos 840)
   sum_fits t = simp (same, (sum_is z (within t)).0) (record { sfits = omega (arith, (sum_is z (within t)).1) })
 
-  sum-word : not r ≡ false → to_z w32 (of_z w32 (to_z w32 (of_z w32 z) +ℤ pos 840)) ≡ pos (biased z)
+  sum-word : r ≡ true → to_z w32 (of_z w32 (to_z w32 (of_z w32 z) +ℤ pos 840)) ≡ pos (biased z)
   sum-word t = to_z-of_z (sum_fits t) ∙ simp same (sum_is z (within t)).0
 
-  pub sum-casts : not r ≡ false → T (non_neg (to_z w32 (of_z w32 (to_z w32 (of_z w32 z) +ℤ pos 840)))) × Fits w64 (nat_abs (to_z w32 (of_z w32 (to_z w32 (of_z w32 z) +ℤ pos 840))))
+  pub sum-casts : r ≡ true → T (non_neg (to_z w32 (of_z w32 (to_z w32 (of_z w32 z) +ℤ pos 840)))) × Fits w64 (nat_abs (to_z w32 (of_z w32 (to_z w32 (of_z w32 z) +ℤ pos 840))))
   sum-casts t = rw (sum-word t) (tt, record { fits = omega (arith, (sum_is z (within t)).1) })
 
-  pub cast_is : not r ≡ false → nat_abs (to_z w32 (of_z w32 (to_z w32 (of_z w32 z) +ℤ pos 840))) ≡ offset_word z
+  pub cast_is : r ≡ true → nat_abs (to_z w32 (of_z w32 (to_z w32 (of_z w32 z) +ℤ pos 840))) ≡ offset_word z
   unfolding offset_word
   cast_is t = simp (sum-word t, within t)
 

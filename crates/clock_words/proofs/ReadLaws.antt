@@ -1,6 +1,6 @@
 -- What a read of the clock gives: its number, and its value in word 0 of the output.
-use Rattle.core.specs.Prelude.{◌≡◌, ℕ, ◌≤◌, Bool, List, length, get_or, set}
-use mathlib.Core.Path.{refl, ap, ◌∙◌}
+use Rattle.std.proofs.Common.{◌≡◌, ℕ, ◌≤◌, List, length, get_or}
+use mathlib.Core.Path.{refl}
 use native.Mathlib.Omega.{arith}
 use borrow.Author.Tests.{le-ltb, lt-ltb}
 use lib.Seq.{get_or-set_other, get_or-set_same}
@@ -8,7 +8,7 @@ use Rattle.clock.specs.declared.ClockError.{ClockError}
 use Rattle.clock.specs.declared.Reading.{Reading}
 use Rattle.clock.specs.declared.Reading.TheVariants as reading
 use Rattle.clock.specs.Numbers.{error_number}
-use Rattle.clock_words.specs.ClockWords.{Returned, returned, placed, answered}
+use Rattle.clock_words.specs.ClockWords.{returned, placed, answered}
 
 module _ (out : List ℕ) (room : 1 ≤ length out) where
   -- 0, the value in word 0, and every other word as it was

@@ -1,5 +1,5 @@
 -- A clock in seven words, and what a call answers and leaves behind.
-use Rattle.core.specs.Prelude.{ℕ, ◌+◌, ◌-◌, cond, List, length, set, ℤ, pos, negsuc, ◌-ℤ◌, ◌==◌, nat_le, nat_lt, slice_index, slice_set}
+use Rattle.std.specs.Prelude.{ℕ, ◌+◌, ◌-◌, cond, List, length, set, ℤ, pos, negsuc, ◌-ℤ◌, ◌==◌, nat_le, nat_lt, slice_index, slice_set}
 use Rattle.clock.specs.declared.GuestClock.{GuestClock}
 use Rattle.clock.specs.declared.Outcome.{Outcome}
 use Rattle.clock.specs.declared.Reading.{Reading}

@@ -2,11 +2,12 @@
 //
 // Words past the seventh are never touched. A word out of its field's range, or missing, makes the clock one out of form.
 #![tactic(auto)]
-ghost use Rattle.core.specs.Prelude.{◌≡◌};
+
+ghost use Rattle.std.specs.Prelude.{◌≡◌};
 ghost use Rattle.clock.specs.Numbers.{error_number, refusal_number};
 ghost use Rattle.clock_words.specs.ClockWords.{fitted, offset_at, offset_word, clock_at, put_clock, returned, ended, answered};
 
-use clock::{ClockError, Done, GuestClock, Outcome, Reading, core};
+use clock::{ClockError, Done, GuestClock, Outcome, Reading, by_value};
 
 pub mod operations;
 
@@ -40,7 +41,7 @@ fn offset_word(c: GuestClock) -> u64
     ensures { result ≡ offset_word c.utc_offset_minutes }
 {
     let minutes = c.utc_offset_minutes;
-    if !core::offset_in_range(minutes) {
+    if !by_value::offset_in_range(minutes) {
         return 0;
     }
     (minutes + 840) as u64
@@ -103,6 +104,7 @@ fn refusal_number(answer: Done) -> u64
 }
 
 // A clock that was out of form is not put back: its words may hold what no clock does.
+#[tactic(auto, unfolding(crate::specs::ClockWords::ended))]
 fn end(w: &mut [u64], after: Outcome) -> u64
     ensures { returned result w.new ≡ ended w.old after }
 {

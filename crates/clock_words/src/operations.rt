@@ -1,11 +1,11 @@
 // The clock's calls, each on the seven words.
-ghost use Rattle.core.specs.Prelude.{◌≡◌};
+ghost use Rattle.std.specs.Prelude.{◌≡◌};
 ghost use Rattle.clock.specs.Clock.{created, instruction, flush_cycles, observe, advance_microseconds, advance100ns, advance_milliseconds, qpc, tick64, tsc};
 ghost use Rattle.clock.specs.declared.GuestClock.{GuestClock};
 ghost use Rattle.clock_words.specs.ClockWords.{returned, opened, changed, read_into};
 
 use super::{answer, end, error_number, load, store};
-use clock::{Created, core};
+use clock::{Created, by_value};
 
 pub fn new(
     words: &mut [u64],
@@ -16,7 +16,7 @@ pub fn new(
 ) -> u64
     ensures { returned result words.new ≡ opened words.old (created utc_filetime uptime_ms utc_offset_minutes base_mhz) }
 {
-    match core::new(utc_filetime, uptime_ms, utc_offset_minutes, base_mhz) {
+    match by_value::new(utc_filetime, uptime_ms, utc_offset_minutes, base_mhz) {
         Created::Err(why) => error_number(why),
         Created::Ok(c) => {
             if words.len() < 7 {
@@ -31,59 +31,59 @@ pub fn new(
 pub fn instruction(words: &mut [u64]) -> u64
     ensures { returned result words.new ≡ changed instruction words.old }
 {
-    let after = core::instruction(load(words));
+    let after = by_value::instruction(load(words));
     end(words, after)
 }
 
 pub fn flush_cycles(words: &mut [u64]) -> u64
     ensures { returned result words.new ≡ changed flush_cycles words.old }
 {
-    let after = core::flush_cycles(load(words));
+    let after = by_value::flush_cycles(load(words));
     end(words, after)
 }
 
 pub fn observe(words: &mut [u64]) -> u64
     ensures { returned result words.new ≡ changed observe words.old }
 {
-    let after = core::observe(load(words));
+    let after = by_value::observe(load(words));
     end(words, after)
 }
 
 pub fn advance_microseconds(words: &mut [u64], amount: u64) -> u64
     ensures { returned result words.new ≡ changed (λ (c : GuestClock). advance_microseconds c amount) words.old }
 {
-    let after = core::advance_microseconds(load(words), amount);
+    let after = by_value::advance_microseconds(load(words), amount);
     end(words, after)
 }
 
 pub fn advance_100ns(words: &mut [u64], ticks: u64) -> u64
     ensures { returned result words.new ≡ changed (λ (c : GuestClock). advance100ns c ticks) words.old }
 {
-    let after = core::advance_100ns(load(words), ticks);
+    let after = by_value::advance_100ns(load(words), ticks);
     end(words, after)
 }
 
 pub fn advance_milliseconds(words: &mut [u64], amount: u32) -> u64
     ensures { returned result words.new ≡ changed (λ (c : GuestClock). advance_milliseconds c amount) words.old }
 {
-    let after = core::advance_milliseconds(load(words), amount);
+    let after = by_value::advance_milliseconds(load(words), amount);
     end(words, after)
 }
 
 pub fn qpc(words: &[u64], out: &mut [u64]) -> u64
     ensures { returned result out.new ≡ read_into qpc words.now out.old }
 {
-    answer(out, core::qpc(load(words)))
+    answer(out, by_value::qpc(load(words)))
 }
 
 pub fn tick64(words: &[u64], out: &mut [u64]) -> u64
     ensures { returned result out.new ≡ read_into tick64 words.now out.old }
 {
-    answer(out, core::tick64(load(words)))
+    answer(out, by_value::tick64(load(words)))
 }
 
 pub fn tsc(words: &[u64], out: &mut [u64]) -> u64
     ensures { returned result out.new ≡ read_into tsc words.now out.old }
 {
-    answer(out, core::tsc(load(words)))
+    answer(out, by_value::tsc(load(words)))
 }

@@ -1,0 +1,6 @@
+use Rattle.clock_words.specs.ClockWords.{changed}
+use Rattle.clock_words.proofs.operations.flush_cycles.Goals as goal
+
+pub returns : goal.returns
+unfolding changed
+returns c = cc

@@ -1,0 +1,6 @@
+use Rattle.clock_words.specs.ClockWords.{read_into}
+use Rattle.clock_words.proofs.operations.qpc.Goals as goal
+
+pub returns : goal.returns
+unfolding read_into
+returns c = cc
