@@ -1,5 +1,5 @@
 -- What a command that a match leaves over asks for.
-use Rattle.core.specs.Prelude.{◌≡◌, ℕ, Bool, true, false, cond, ltb, List, [], ◌∷◌, length}
+use Rattle.std.proofs.Common.{◌≡◌, ℕ, Bool, true, false, cond, ltb, List, [], ◌∷◌, length}
 use mathlib.Core.Path.{refl, ap, ◌∙◌}
 use types.Run.{OneOf, miss}
 use denote.Enum.Declared.{tag_of}

@@ -1,5 +1,5 @@
 -- A line of a script to the line of its answer.
-use Rattle.core.specs.Prelude.{ℕ, List}
+use Rattle.std.specs.Prelude.{ℕ, List}
 use Rattle.script.specs.Line.{read_line}
 use Rattle.script.specs.Wait.{Taken}
 use Rattle.script_print.specs.Print.{printed, answer_line, Written}

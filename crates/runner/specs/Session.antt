@@ -1,5 +1,5 @@
 -- What the command of a line does to a bench: the scheduler in its words, and a clock.
-use Rattle.core.specs.Prelude.{ℕ, Bool, true, false, cond, List, length, pos}
+use Rattle.std.specs.Prelude.{ℕ, Bool, true, false, cond, List, length, pos}
 use Rattle.answers.specs.declared.Answer.{Answer}
 use Rattle.answers.specs.declared.Answer.TheVariants as answer
 use Rattle.answers.specs.Outcome.{Outcome}

@@ -1,5 +1,5 @@
 // A line of a script: read, performed and answered.
-ghost use Rattle.core.specs.Prelude.{◌≡◌, ◌≤◌, length};
+ghost use Rattle.std.specs.Prelude.{◌≡◌, ◌≤◌, length};
 ghost use Rattle.runner.specs.Line.{answered_as, answered};
 
 use super::session;

@@ -1,11 +1,11 @@
 // What a command does to a bench: the scheduler in its words, and a clock.
-ghost use Rattle.core.specs.Prelude.{◌≡◌};
+ghost use Rattle.std.specs.Prelude.{◌≡◌};
 ghost use Rattle.clock.specs.Numbers.{error_number};
 ghost use Rattle.commands.specs.Commands.{asked};
 ghost use Rattle.runner.specs.Session as spec;
 
 use answers::Answer;
-use clock::{ClockError, Created, Done, GuestClock, Outcome, Reading, core};
+use clock::{ClockError, Created, Done, GuestClock, Outcome, Reading, by_value};
 use scheduler::changes;
 use script_lex::command::Command;
 
@@ -146,16 +146,16 @@ fn go_on(w: &mut [u64], waiting: &mut [u64], list: &[u64], s: Session, c: Comman
             uptime,
             offset,
             mhz,
-        } => new_clock(s, core::new(utc, uptime, offset, mhz)),
-        Command::ClockInstruction => moved(s, core::instruction(now)),
-        Command::ClockAdvanceMicroseconds(n) => moved(s, core::advance_microseconds(now, n)),
-        Command::ClockAdvance100ns(n) => moved(s, core::advance_100ns(now, n)),
-        Command::ClockAdvanceMilliseconds(n) => moved(s, core::advance_milliseconds(now, n)),
-        Command::ClockFlushCycles => moved(s, core::flush_cycles(now)),
-        Command::ClockObserve => moved(s, core::observe(now)),
-        Command::ClockQpc => told(s, core::qpc(now)),
-        Command::ClockTick64 => told(s, core::tick64(now)),
-        Command::ClockTsc => told(s, core::tsc(now)),
+        } => new_clock(s, by_value::new(utc, uptime, offset, mhz)),
+        Command::ClockInstruction => moved(s, by_value::instruction(now)),
+        Command::ClockAdvanceMicroseconds(n) => moved(s, by_value::advance_microseconds(now, n)),
+        Command::ClockAdvance100ns(n) => moved(s, by_value::advance_100ns(now, n)),
+        Command::ClockAdvanceMilliseconds(n) => moved(s, by_value::advance_milliseconds(now, n)),
+        Command::ClockFlushCycles => moved(s, by_value::flush_cycles(now)),
+        Command::ClockObserve => moved(s, by_value::observe(now)),
+        Command::ClockQpc => told(s, by_value::qpc(now)),
+        Command::ClockTick64 => told(s, by_value::tick64(now)),
+        Command::ClockTsc => told(s, by_value::tsc(now)),
         _ => unchanged(s, commands::on_words(w, list, c)),
     }
 }
