@@ -1,5 +1,6 @@
 // Reasons in English. Each writer goes as far as the text has room, and answers the place behind what it wrote.
 #![tactic(auto)]
+
 ghost use Rattle.std.specs.Prelude.{◌≡◌, ◌≤◌, length, take};
 ghost use Rattle.script_lex.specs.Words.{words_at, first, part};
 ghost use Rattle.script_print.specs.Print.{written, printed};
