@@ -1,5 +1,6 @@
 // A sentence for each refusal. The writer goes as far as the text has room, and answers the place behind what it wrote.
 #![tactic(auto)]
+
 ghost use Rattle.std.specs.Prelude.{◌≡◌};
 ghost use Rattle.script_print.specs.Print.{written, printed};
 ghost use Rattle.refusal_text.specs.Sentences.{sentence, sentence8, sentence15, sentence22};
