@@ -11,6 +11,7 @@ use reasons::Reason;
 use script_lex::lex;
 
 // A byte as it is shown: a question mark for what is not printable ASCII.
+#[tactic(auto, unfolding(crate::specs::Words::visible))]
 fn visible_of(b: u8) -> u8
     ensures { result ≡ visible b }
 {
