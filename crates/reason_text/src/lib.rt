@@ -1,5 +1,6 @@
 // Reasons in English. Each writer goes as far as the text has room, and answers the place behind what it wrote.
 #![tactic(auto)]
+
 ghost use Rattle.std.specs.Prelude.{◌≡◌, ◌≤◌, length, take};
 ghost use Rattle.script_lex.specs.Words.{words_at, first, part};
 ghost use Rattle.script_print.specs.Print.{written, printed};
@@ -10,6 +11,7 @@ use reasons::Reason;
 use script_lex::lex;
 
 // A byte as it is shown: a question mark for what is not printable ASCII.
+#[tactic(auto, unfolding(crate::specs::Words::visible))]
 fn visible_of(b: u8) -> u8
     ensures { result ≡ visible b }
 {

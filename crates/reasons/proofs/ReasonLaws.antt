@@ -6,11 +6,8 @@ use Prim.Native.Nat.{ℕ, ◌+◌, ◌≤◌, ◌<◌}
 use native.Mathlib.Omega.{arith}
 use lib.ListN.{length, get_or, drop, length-drop}
 use lib.Seq.{drop-cons}
-use types.Run.{OneOf, miss}
-use denote.Enum.Declared.{tag_of}
 use Rattle.reasons.specs.declared.Reason.{Reason}
 use Rattle.reasons.specs.declared.Reason.TheVariants as reason
-use Rattle.reasons.specs.contracts.Reason.{the_type}
 use Rattle.script_lex.specs.Text.{bytes_of}
 use Rattle.script_lex.specs.Names as name
 use Rattle.script_lex.specs.Words.{blank, grown, pieces, full, words_of, first, others, none, part}
@@ -44,12 +41,9 @@ form-reason from to t p ws h k = simp (part-cons from to t h k)
 pub default : (l : List ℕ) (i d e : ℕ) → i < length l → get_or l i d ≡ get_or l i e
 default l i d e h = cc (drop-cons l i d h, drop-cons l i e h)
 
-abbrev faults : List ℕ
-faults = 1 ∷ 2 ∷ 3 ∷ 4 ∷ 5 ∷ 6 ∷ 7 ∷ 8 ∷ 9 ∷ 10 ∷ 11 ∷ []
-
-pub not-fine : (r : Reason) → OneOf faults (tag_of the_type r) → is_fine r ≡ false
+pub not-fine : (r : Reason) → (r ≡ reason.Fine → ⊥) → is_fine r ≡ false
 unfolding is_fine
-not-fine reason.Fine q = absurd (miss faults 0 tt q)
+not-fine reason.Fine q = absurd (q refl)
 not-fine reason.TooLong q = refl
 not-fine reason.NoWord q = refl
 not-fine (reason.UnknownWord p) q = refl

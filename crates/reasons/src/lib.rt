@@ -1,5 +1,6 @@
 // Why a line of a script cannot be read.
 #![tactic(auto)]
+
 ghost use Rattle.std.specs.Prelude.{◌≡◌, ◌≤◌, length};
 ghost use Rattle.script_lex.specs.Words.{words_at};
 ghost use Rattle.reasons.specs.Reasons.{is_fine, continued, named_reason, clock_reason, words_reason, reason_of};

@@ -1,10 +1,12 @@
 // A sentence for each refusal. The writer goes as far as the text has room, and answers the place behind what it wrote.
 #![tactic(auto)]
+
 ghost use Rattle.std.specs.Prelude.{◌≡◌};
 ghost use Rattle.script_print.specs.Print.{written, printed};
 ghost use Rattle.refusal_text.specs.Sentences.{sentence, sentence8, sentence15, sentence22};
 
 // From 22 on.
+#[tactic(auto, unfolding(crate::specs::Sentences::sentence22))]
 fn put_sentence_22(text: &mut [u8], at: usize, number: u64) -> usize
     ensures { written text.new result ≡ printed text.old at (sentence22 number) }
 {
@@ -41,6 +43,7 @@ fn put_sentence_22(text: &mut [u8], at: usize, number: u64) -> usize
 }
 
 // From 15 on.
+#[tactic(auto, unfolding(crate::specs::Sentences::sentence15))]
 fn put_sentence_15(text: &mut [u8], at: usize, number: u64) -> usize
     ensures { written text.new result ≡ printed text.old at (sentence15 number) }
 {
@@ -69,6 +72,7 @@ fn put_sentence_15(text: &mut [u8], at: usize, number: u64) -> usize
 }
 
 // From 8 on.
+#[tactic(auto, unfolding(crate::specs::Sentences::sentence8))]
 fn put_sentence_8(text: &mut [u8], at: usize, number: u64) -> usize
     ensures { written text.new result ≡ printed text.old at (sentence8 number) }
 {
@@ -105,6 +109,7 @@ fn put_sentence_8(text: &mut [u8], at: usize, number: u64) -> usize
 }
 
 // The sentence of a refusal's number.
+#[tactic(auto, unfolding(crate::specs::Sentences::sentence))]
 pub fn put_sentence(text: &mut [u8], at: usize, number: u64) -> usize
     ensures { written text.new result ≡ printed text.old at (sentence number) }
 {

@@ -1,5 +1,6 @@
 // A line of a script read as a command.
 #![tactic(auto)]
+
 ghost use Rattle.std.specs.Prelude.{◌≡◌, ◌≤◌, length};
 ghost use Rattle.script_lex.specs.Words.{words_at};
 ghost use Rattle.script.specs.Wait.{taken};

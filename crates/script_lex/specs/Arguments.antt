@@ -1,5 +1,5 @@
 -- The arguments of a line: its words behind the name.
-use Rattle.std.specs.Prelude.{cond, true, false, List, [], ◌∷◌, ℕ, ◌-◌, ◌^◌}
+use Rattle.std.specs.Prelude.{cond, true, false, List, ℕ, ◌-◌, ◌^◌}
 use Rattle.script_lex.specs.declared.lex.Number.{Number}
 use Rattle.script_lex.specs.declared.lex.Number.TheVariants as number
 use Rattle.script_lex.specs.declared.arguments.Flag.{Flag}

@@ -1,5 +1,6 @@
 // An answer as a line of text. Each writer goes as far as the text has room, and answers the place behind what it wrote.
 #![tactic(auto)]
+
 ghost use Rattle.std.specs.Prelude.{◌≡◌, ◌∷◌, ◌++◌, ◌+◌, ◌%◌, ◌≤◌, length, drop, take};
 ghost use Rattle.script_print.specs.Print.{digit_of, decimal, written, printed, spaced, flag_text, answer_text, answer_line, bare_answer};
 

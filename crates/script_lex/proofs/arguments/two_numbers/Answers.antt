@@ -4,12 +4,12 @@ use Rattle.script_lex.proofs.arguments.two_numbers.Goals as goal
 
 pub returns-in_default : goal.returns-in_default
 unfolding two_of join_two
-returns-in_default c = simp (sym c.number_at.ensures ∙ c.enum_told-1.given.1)
+returns-in_default c = simp (sym c.number_at.ensures ∙ c.in_default.is)
 
 pub returns-in_default-one_number : goal.returns-in_default-one_number
 unfolding two_of join_two
-returns-in_default-one_number c = simp (sym c.number_at.ensures ∙ c.a-1.given.1, sym (c.one_number.ensures ∙ ap (one_of _) c.behind.ensures) ∙ c.enum_told-in_default-one_number-1.given.1)
+returns-in_default-one_number c = simp (sym c.number_at.ensures ∙ c.in-Read.is, sym (c.one_number.ensures ∙ ap (one_of _) c.behind.ensures) ∙ c.in_default-one_number.is)
 
 pub returns : goal.returns
 unfolding two_of join_two
-returns c = simp (sym c.number_at.ensures ∙ c.a-1.given.1, sym (c.one_number.ensures ∙ ap (one_of _) c.behind.ensures) ∙ c.b-1.given.1)
+returns c = simp (sym c.number_at.ensures ∙ c.in-Read.is, sym (c.one_number.ensures ∙ ap (one_of _) c.behind.ensures) ∙ c.in-Read-one_number.is)

@@ -1,5 +1,4 @@
 use mathlib.Core.Path.{refl, sym, ◌∙◌}
-use Prim.Native.Nat.{◌-◌}
 use Rattle.script_lex.proofs.WordLaws.{same_end, same-short, same_stop, same_more}
 use borrow.Author.Rules.{rules}
 use Rattle.script_lex.proofs.lex.is_same.Goals as goal

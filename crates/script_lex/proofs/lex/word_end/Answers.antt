@@ -1,5 +1,4 @@
 use mathlib.Core.Path.{refl, sym, ◌∙◌}
-use Prim.Native.Nat.{◌-◌}
 use Rattle.script_lex.proofs.WordLaws.{end-end, end-stop, end_more}
 use Rattle.script_lex.proofs.lex.word_end.Goals as goal
 

@@ -1,6 +1,4 @@
 use mathlib.Core.Path.{refl, sym, ◌∙◌}
-use Prim.Native.Nat.{◌-◌}
-use borrow.Author.Tests.{not-true, not-false}
 use Rattle.script_lex.proofs.WordLaws.{start-end, start-stop, start-more}
 use Rattle.script_lex.proofs.lex.word_start.Goals as goal
 
@@ -8,10 +6,10 @@ pub loop-at-init : goal.loop-at-init
 loop-at-init c = refl
 
 pub returns-then-not-is_blank : goal.returns-then-not-is_blank
-returns-then-not-is_blank c = sym (start-stop c.args.line.now c.loop-at.at c.loop-at-test.true (sym c.is_blank.ensures ∙ not-true _ c.if-not-is_blank.true)) ∙ c.loop-at.invariant
+returns-then-not-is_blank c = sym (start-stop c.args.line.now c.loop-at.at c.loop-at-test.true (sym c.is_blank.ensures ∙ c.if-not-is_blank.true)) ∙ c.loop-at.invariant
 
 pub loop-at-preserved : goal.loop-at-preserved
-loop-at-preserved c = sym (start-more c.args.line.now c.loop-at.at c.loop-at-test.true (sym c.is_blank.ensures ∙ not-false _ c.if-not-is_blank.false)) ∙ c.loop-at.invariant
+loop-at-preserved c = sym (start-more c.args.line.now c.loop-at.at c.loop-at-test.true (sym c.is_blank.ensures ∙ c.if-not-is_blank.false)) ∙ c.loop-at.invariant
 
 pub returns : goal.returns
 returns c = sym (start-end c.args.line.now c.loop-at.at c.loop-at-test.false) ∙ c.loop-at.invariant

@@ -4,12 +4,12 @@ use Rattle.script_lex.proofs.location.image_at.Goals as goal
 
 pub returns-in_default : goal.returns-in_default
 unfolding image_line image_of
-returns-in_default c = simp (sym c.number_at.ensures ∙ c.enum_told-1.given.1)
+returns-in_default c = simp (sym c.number_at.ensures ∙ c.in_default.is)
 
 pub returns-in_default-number_at : goal.returns-in_default-number_at
 unfolding image_line image_of
-returns-in_default-number_at c = simp (← c.behind.ensures, sym c.number_at.ensures ∙ c.base-1.given.1, sym c.number_at-2.ensures ∙ c.enum_told-in_default-number_at-1.given.1)
+returns-in_default-number_at c = simp (← c.behind.ensures, sym c.number_at.ensures ∙ c.in-Read.is, sym c.number_at-2.ensures ∙ c.in_default-number_at.is)
 
 pub returns : goal.returns
 unfolding image_line image_of
-returns c = simp (← c.behind.ensures, sym c.number_at.ensures ∙ c.base-1.given.1, sym c.number_at-2.ensures ∙ c.size-1.given.1)
+returns c = simp (← c.behind.ensures, sym c.number_at.ensures ∙ c.in-Read.is, sym c.number_at-2.ensures ∙ c.in-Read-number_at.is)

@@ -1,0 +1,16 @@
+use mathlib.Core.Path.{◌∙◌, sym}
+use Rattle.reasons.specs.Reasons.{words_reason}
+use Rattle.reasons.proofs.ReasonLaws.{table}
+use Rattle.reasons.proofs.words_reason.Goals as goal
+
+pub returns-then-is_end : goal.returns-then-is_end
+unfolding words_reason
+returns-then-is_end c = simp (sym c.is_end.ensures ∙ c.if-is_end.true)
+
+pub returns-then-is_word : goal.returns-then-is_word
+unfolding words_reason
+returns-then-is_word c = simp (sym c.is_end.ensures ∙ c.if-is_end.false, sym c.is_word.ensures ∙ c.if-is_word.true, ← c.behind.ensures) c.clock_reason.ensures
+
+pub returns : goal.returns
+unfolding words_reason
+returns c = simp (sym c.is_end.ensures ∙ c.if-is_end.false, sym c.is_word.ensures ∙ c.if-is_word.false, ← table) c.named_reason.ensures
