@@ -1,0 +1,12 @@
+use mathlib.Core.Path.{◌∙◌, sym}
+use Rattle.calls.specs.Guard.{readable}
+use Rattle.calls.specs.Called.{called}
+use Rattle.scheduler.proofs.dpc_calls.active_dpc.Goals as goal
+
+pub returns-then-not-in_form : goal.returns-then-not-in_form
+unfolding called readable
+returns-then-not-in_form c = simp (sym c.in_form.ensures ∙ c.if-not-in_form.true)
+
+pub returns : goal.returns
+unfolding called readable
+returns c = simp (sym c.in_form.ensures ∙ c.if-not-in_form.false) (cc)
