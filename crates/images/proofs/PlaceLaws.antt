@@ -289,5 +289,5 @@ architecture-back X86 = refl
 
 pub backing-back : (b : TimerBacking) → backing_of (backing_kind b) (backing_base b) (backing_size b) (backing_mapped b) ≡ b
 unfolding backing_of
-backing-back (Image base size) = refl
-backing-back (NonpagedPool base requested mapped) = refl
+backing-back (Image from size) = refl
+backing-back (NonpagedPool from requested mapped) = refl

@@ -2,7 +2,8 @@
 ghost use Rattle.std.specs.Prelude.{◌≡◌, length};
 ghost use Rattle.model.specs.Call as call;
 ghost use Rattle.calls.specs.Called.{optional};
-ghost use Rattle.exports.specs.SchedulerAnswer.{truth, given, changed_by, given_all, dispatched_by};
+ghost use Rattle.exports.specs.SchedulerAnswer.{truth, given, changed_by, given_all};
+ghost use Rattle.raw_exports.specs.Dispatch.{dispatched_by};
 ghost use Rattle.unchecked.specs.Unchecked.{unchecked};
 
 use exports::scheduler_answer::put_answer;

@@ -1,6 +1,6 @@
 use mathlib.Core.Path.{◌∙◌}
 use Rattle.exports.specs.SchedulerAnswer.{given_all}
-use Rattle.exports.proofs.AnswerLaws.{dispatched-short, dispatched-by}
+use Rattle.raw_exports.proofs.DispatchLaws.{dispatched-short, dispatched-by}
 use Rattle.unchecked.specs.Unchecked.{unchecked}
 use borrow.Author.Rules.{rules}
 use Rattle.unchecked_calls.proofs.changes.unchecked_dispatch.Statement.{statement}
