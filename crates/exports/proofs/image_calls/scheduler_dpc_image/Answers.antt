@@ -7,5 +7,5 @@ pub returns-then-out-lt4 : goal.returns-then-out-lt4
 returns-then-out-lt4 c = image-short c.args.bytes.now c.args.out.now _ c.if-out-lt4.true
 
 pub returns : goal.returns
-returns c = (λ i. given_image (c.put_answer.ensures.0 i) c.dpc_image-answer.new.out.1.0 (c.put_answer.ensures.1 i))
-    ∙ image-by c.args.bytes.now c.args.out.now _ c.dpc_image-answer.result c.dpc_image-answer.new.out.1.0 c.if-out-lt4.false c.dpc_image-answer.ensures
+returns c = (λ i. given_image (c.put_answer.ensures.0 i) c.dpc_image-answer.new.out (c.put_answer.ensures.1 i))
+    ∙ image-by c.args.bytes.now c.args.out.now _ c.dpc_image-answer.result c.dpc_image-answer.new.out c.if-out-lt4.false c.dpc_image-answer.ensures

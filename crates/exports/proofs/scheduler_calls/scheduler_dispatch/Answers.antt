@@ -7,4 +7,4 @@ pub returns-then-out-lt4 : goal.returns-then-out-lt4
 returns-then-out-lt4 c = dispatched-short c.args.words.now c.args.waiting.now c.args.out.now c.if-out-lt4.true
 
 pub returns : goal.returns
-returns c = (λ i. given_all (c.put_answer.ensures.0 i) c.dispatch-answer.new.w c.dispatch-answer.new.1.0 (c.put_answer.ensures.1 i)) ∙ dispatched-by c.args.words.now c.args.waiting.now c.args.out.now c.dispatch-answer.result c.dispatch-answer.new.w c.dispatch-answer.new.1.0 c.if-out-lt4.false c.dispatch-answer.ensures
+returns c = (λ i. given_all (c.put_answer.ensures.0 i) c.dispatch-answer.new.w c.dispatch-answer.new.out (c.put_answer.ensures.1 i)) ∙ dispatched-by c.args.words.now c.args.waiting.now c.args.out.now c.dispatch-answer.result c.dispatch-answer.new.w c.dispatch-answer.new.out c.if-out-lt4.false c.dispatch-answer.ensures

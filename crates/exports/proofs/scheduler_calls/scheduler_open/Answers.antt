@@ -7,5 +7,5 @@ pub returns-then-out-lt4 : goal.returns-then-out-lt4
 returns-then-out-lt4 c = changed-short c.args.words.now c.args.out.now _ c.if-out-lt4.true
 
 pub returns : goal.returns
-returns c = (λ i. given (c.put_answer.ensures.0 i) c.before.before.before.before.before.before.«open».new.0 (c.put_answer.ensures.1 i))
-    ∙ changed-by c.args.words.now c.args.out.now _ c.before.before.before.before.before.before.«open».result c.before.before.before.before.before.before.«open».new.0 c.if-out-lt4.false c.before.before.before.before.before.before.«open».ensures
+returns c = (λ i. given (c.put_answer.ensures.0 i) c.open-answer.new.w (c.put_answer.ensures.1 i))
+    ∙ changed-by c.args.words.now c.args.out.now _ c.open-answer.result c.open-answer.new.w c.if-out-lt4.false c.open-answer.ensures
