@@ -36,6 +36,7 @@ set-most (x ∷ w) (suc i) v (suc j) most h k = set-most w i v j most h k
 next-of : (w : List ℕ) (c : Chain) (before : ℕ) (xs : List ℕ) → Linked w c before xs → (y : ℕ) → Mem y (before ∷ xs) → Mem (next_of w c y) (0 ∷ xs)
 unfolding next_of
 next-of w c before [] h y (inl e) = inl (ap (λ (z : ℕ). get_or w (link_at c z) 0) e ∙ h)
+next-of w c before [] h y (inr m) = elim m [ ]
 next-of w c before (x ∷ xs) h y (inl e) = inr (inl (ap (λ (z : ℕ). get_or w (link_at c z) 0) e ∙ h.0))
 next-of w c before (x ∷ xs) h y (inr m) = lift (next-of w c x xs h.1 y m)
   where

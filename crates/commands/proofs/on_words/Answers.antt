@@ -1,6 +1,7 @@
 use mir.Syntax.{w32}
 use mir.Val.{SFits}
 use mir.Facts.{to_z-of_z}
+use Rattle.std.proofs.Common.{rules}
 use Rattle.commands.proofs.CommandLaws.{no_words}
 use Rattle.commands.specs.Commands.{asked, on_words, waited}
 use Rattle.commands.proofs.on_words.Goals as goal
@@ -103,7 +104,7 @@ returns-in-InitializeDpc c = simp c.in-InitializeDpc.is c.initialize_dpc.ensures
 
 pub returns-in-SetTimer : goal.returns-in-SetTimer
 unfolding asked on_words
-returns-in-SetTimer c = let f : SFits w32 c.c-in-SetTimer-1.given.0.1.1.1.0 = record { sfits = c.in-SetTimer.is.1.1.0.1 } in simp (c.in-SetTimer.is, to_z-of_z f) (simp (to_z-of_z f) at c.set_timer.ensures)
+returns-in-SetTimer c = let f : SFits w32 c.in-SetTimer.period = search rules in simp (c.in-SetTimer.is, to_z-of_z f) (simp (to_z-of_z f) at c.set_timer.ensures)
 
 pub returns-in-CancelTimer : goal.returns-in-CancelTimer
 unfolding asked on_words
@@ -146,4 +147,4 @@ unfolding asked on_words
 returns-in-RestoredDpc c = simp c.in-RestoredDpc.is c.restored_dpc.ensures
 
 pub returns-in_default : goal.returns-in_default
-returns-in_default c = no_words _ _ c.args.c c.in_default.keys36
+returns-in_default c = no_words _ _ c.args.c c.in_default.in_default-own.keys36

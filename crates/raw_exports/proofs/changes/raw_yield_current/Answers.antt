@@ -1,0 +1,10 @@
+use mathlib.Core.Path.{◌∙◌}
+use Rattle.exports.specs.SchedulerAnswer.{given}
+use Rattle.exports.proofs.AnswerLaws.{changed-short, changed-by}
+use Rattle.raw_exports.proofs.changes.raw_yield_current.Goals as goal
+
+pub returns-then-out-lt4 : goal.returns-then-out-lt4
+returns-then-out-lt4 c = changed-short c.args.words.now c.args.out.now _ c.if-out-lt4.true
+
+pub returns : goal.returns
+returns c = (λ i. given (c.put_answer.ensures.0 i) c.yield_current-answer.new.w (c.put_answer.ensures.1 i)) ∙ changed-by c.args.words.now c.args.out.now _ c.yield_current-answer.result c.yield_current-answer.new.w c.if-out-lt4.false c.yield_current-answer.ensures

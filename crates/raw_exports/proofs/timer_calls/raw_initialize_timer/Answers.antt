@@ -1,0 +1,13 @@
+use mathlib.Core.Path.{◌∙◌}
+use Rattle.timers.specs.Initialize as initialize
+use Rattle.exports.specs.SchedulerAnswer.{given, truth}
+use Rattle.exports.proofs.AnswerLaws.{changed-short, changed-by}
+use Rattle.raw_exports.proofs.timer_calls.raw_initialize_timer.Goals as goal
+
+pub returns-then-out-lt4 : goal.returns-then-out-lt4
+returns-then-out-lt4 c = changed-short c.args.words.now c.args.out.now _ c.if-out-lt4.true
+
+pub returns : goal.returns
+returns c = (λ i. given (c.put_answer.ensures.0 i) c.initialize_timer-answer.new.w (c.put_answer.ensures.1 i))
+    ∙ changed-by c.args.words.now c.args.out.now _ c.initialize_timer-answer.result c.initialize_timer-answer.new.w c.if-out-lt4.false
+    (c.initialize_timer-answer.ensures ∙ (λ i. initialize.timer_initialized c.args.words.now c.args.address (c.architecture_of-a.ensures i) (c.backing_of-b.ensures i) (truth c.args.manual)))

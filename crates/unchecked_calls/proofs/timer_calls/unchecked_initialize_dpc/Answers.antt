@@ -1,0 +1,15 @@
+use mathlib.Core.Path.{◌∙◌}
+use Rattle.model.specs.Call as call
+use Rattle.exports.specs.SchedulerAnswer.{given}
+use Rattle.exports.proofs.AnswerLaws.{changed-short, changed-by}
+use Rattle.unchecked.specs.Unchecked.{unchecked}
+use Rattle.unchecked_calls.proofs.timer_calls.unchecked_initialize_dpc.Goals as goal
+
+pub returns-then-out-lt4 : goal.returns-then-out-lt4
+returns-then-out-lt4 c = changed-short c.args.words.now c.args.out.now _ c.if-out-lt4.true
+
+pub returns : goal.returns
+unfolding unchecked
+returns c = (λ i. given (c.put_answer.ensures.0 i) c.initialize_dpc-answer.new.w (c.put_answer.ensures.1 i))
+    ∙ changed-by c.args.words.now c.args.out.now _ c.initialize_dpc-answer.result c.initialize_dpc-answer.new.w c.if-out-lt4.false
+    (c.initialize_dpc-answer.ensures ∙ (λ i. unchecked c.args.words.now (call.InitializeDpc c.args.address (c.architecture_of-a.ensures i) (c.lent_backing-b.ensures i) c.args.routine c.args.context)))

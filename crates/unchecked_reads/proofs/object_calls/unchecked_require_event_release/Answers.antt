@@ -1,0 +1,12 @@
+use mathlib.Core.Path.{◌∙◌}
+use Rattle.exports.specs.SchedulerAnswer.{given}
+use Rattle.exports.proofs.RecordLaws.{read_short, read-by}
+use Rattle.unchecked.specs.Unchecked.{unchecked}
+use Rattle.unchecked_reads.proofs.object_calls.unchecked_require_event_release.Goals as goal
+
+pub returns-then-out-lt4 : goal.returns-then-out-lt4
+returns-then-out-lt4 c = read_short _ c.args.words.now c.args.out.now _ c.if-out-lt4.true
+
+pub returns : goal.returns
+unfolding unchecked
+returns c = (λ i. given (c.put_answer.ensures.0 i) c.args.words.now (c.put_answer.ensures.1 i)) ∙ read-by _ c.args.words.now c.args.out.now c.require_event_release-answer.result _ c.if-out-lt4.false c.require_event_release-answer.ensures
