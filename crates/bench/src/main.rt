@@ -1,5 +1,6 @@
 // Runs a script, here from a file.
 #![tactic(auto)]
-fn main() {
-    script_loop::answer_script();
+
+fn main(rt: HostRuntime) {
+    script_loop::answer_script(&rt);
 }

@@ -1,5 +1,6 @@
 // `bench` once more, for a stored script on standard input.
 #![tactic(auto)]
-fn main() {
-    script_loop::answer_script();
+
+fn main(rt: HostRuntime) {
+    script_loop::answer_script(&rt);
 }

@@ -1,8 +1,8 @@
 // Bytes to lines, and a line to the call that it names.
-use libc::STDOUT_FILENO;
 use replay_calls::named;
 use replay_state::{reads, show};
 use script_lex::lex;
+use std::io;
 
 // How many bytes of the present line have come, its number, how often its call is made, and how many mutexes are read.
 #[derive(Clone, Copy)]
@@ -79,7 +79,14 @@ fn call(
 }
 
 // The call is made, and its answer written.
-fn perform(w: &mut [u64], line: &[u8], numbers: &[u64], count: usize, p: Place) {
+fn perform(
+    rt: &impl Print,
+    w: &mut [u64],
+    line: &[u8],
+    numbers: &[u64],
+    count: usize,
+    p: Place,
+) -> io::Result<()> {
     let mut waiting = [0u64; 256];
     let mut bytes = [0u8; 64];
     let mut out = [0u64; 24];
@@ -93,11 +100,11 @@ fn perform(w: &mut [u64], line: &[u8], numbers: &[u64], count: usize, p: Place) 
         count,
         p.times,
     );
-    io::print_decimal(STDOUT_FILENO, p.number);
-    io::write_all(STDOUT_FILENO, b" ");
-    show::answer(&out);
-    show::beside(&out, line, &waiting, &bytes);
-    show::end_line();
+    rt.print(p.number)?;
+    rt.write_all(b" ")?;
+    show::answer(rt, &out)?;
+    show::beside(rt, &out, line, &waiting, &bytes)?;
+    show::end_line(rt)
 }
 
 // The place behind a line.
@@ -110,47 +117,67 @@ fn next(p: Place, times: u64, keys: usize) -> Place {
     }
 }
 
-fn finish(w: &mut [u64], kept: &mut [u64], line: &[u8], p: Place) -> Place {
+fn finish(
+    rt: &impl Print,
+    w: &mut [u64],
+    kept: &mut [u64],
+    line: &[u8],
+    p: Place,
+) -> io::Result<Place> {
     let mut numbers = [0u64; 160];
     let count = numbers_of(line, &mut numbers);
     if lex::is_word(line, 0, b"times") {
-        return next(p, words::get(&numbers, 0), p.keys);
+        return Ok(next(p, words::get(&numbers, 0), p.keys));
     }
     if lex::is_word(line, 0, b"keys") {
         keep_keys(&numbers, kept);
-        return next(p, 1, fewer(count, show::KEYS));
+        return Ok(next(p, 1, fewer(count, show::KEYS)));
     }
-    perform(w, line, &numbers, count, p);
-    reads::state(w, p.keys, kept);
-    next(p, 1, p.keys)
+    perform(rt, w, line, &numbers, count, p)?;
+    reads::state(rt, w, p.keys, kept)?;
+    Ok(next(p, 1, p.keys))
 }
 
-fn byte(w: &mut [u64], kept: &mut [u64], line: &mut [u8], b: u8, p: Place) -> Place {
+fn byte(
+    rt: &impl Print,
+    w: &mut [u64],
+    kept: &mut [u64],
+    line: &mut [u8],
+    b: u8,
+    p: Place,
+) -> io::Result<Place> {
     let n = p.used;
     if b == b'\n' {
         if line.len() < n {
-            return p;
+            return Ok(p);
         }
-        return finish(w, kept, &line[..n], p);
+        return finish(rt, w, kept, &line[..n], p);
     }
     if n < line.len() {
         line[n] = b;
-        return Place {
+        return Ok(Place {
             used: n + 1,
             number: p.number,
             times: p.times,
             keys: p.keys,
-        };
+        });
     }
-    p
+    Ok(p)
 }
 
-pub fn take(w: &mut [u64], kept: &mut [u64], line: &mut [u8], chunk: &[u8], p: Place) -> Place {
+pub fn take(
+    rt: &impl Print,
+    w: &mut [u64],
+    kept: &mut [u64],
+    line: &mut [u8],
+    chunk: &[u8],
+    p: Place,
+) -> io::Result<Place> {
     let mut at = p;
     let mut i: usize = 0;
     while i < chunk.len() {
-        at = byte(w, kept, line, chunk[i], at);
+        at = byte(rt, w, kept, line, chunk[i], at)?;
         i += 1;
     }
-    at
+    Ok(at)
 }

@@ -1,3 +1,4 @@
 // The calls of stored lists, by the exported functions.
 #![tactic(auto)]
+
 pub mod named;

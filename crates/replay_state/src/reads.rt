@@ -1,7 +1,7 @@
 // All that the reads show of the state, as far as it has changed.
 use super::show;
 use exports::{dpc_calls, scheduler_calls, thread_calls, timer_calls};
-use libc::STDOUT_FILENO;
+use std::io;
 
 // Where the answers of a read stand in what has been shown, in answers: by position, or by the key's place.
 const THREADS: usize = 0;
@@ -49,94 +49,113 @@ fn at_position(first: usize, w: &[u64], position: u64, out: &mut [u64]) -> u64 {
 }
 
 // An object of a thread's wait, if there is one.
-fn object(w: &[u64], id: u64, position: u64) -> bool {
+fn object(rt: &impl Print, w: &[u64], id: u64, position: u64) -> io::Result<bool> {
     let mut out = [0u64; 24];
     let number = thread_calls::scheduler_waited_object(w, id, position, &mut out);
     show::refuse(&mut out, number);
     if words::get(&out, 0) == show::NONE {
-        return false;
+        return Ok(false);
     }
-    io::write_all(STDOUT_FILENO, b", ");
-    show::answer(&out);
-    true
+    rt.write_all(b", ")?;
+    show::answer(rt, &out)?;
+    Ok(true)
 }
 
-fn objects(w: &[u64], id: u64) {
+fn objects(rt: &impl Print, w: &[u64], id: u64) -> io::Result<()> {
     let mut position: u64 = 0;
     while position < 65 {
-        if !object(w, id, position) {
-            return;
+        if !object(rt, w, id, position)? {
+            return Ok(());
         }
         position += 1;
     }
+    Ok(())
 }
 
 // The answer at a position, if it is news; whether there may be one behind it.
-fn shows(first: usize, i: usize, name: &[u8], w: &[u64], kept: &mut [u64]) -> bool {
+fn shows(
+    rt: &impl Print,
+    first: usize,
+    i: usize,
+    name: &[u8],
+    w: &[u64],
+    kept: &mut [u64],
+) -> io::Result<bool> {
     let mut out = [0u64; 24];
     let number = at_position(first, w, i as u64, &mut out);
     show::refuse(&mut out, number);
     let at = place(first, i);
     if show::is_past(kept, at, &out) {
-        return false;
+        return Ok(false);
     }
     if show::is_news(kept, at, &out) {
-        show::title_of(name, i as u64);
-        show::answer(&out);
+        show::title_of(rt, name, i as u64)?;
+        show::answer(rt, &out)?;
         if first == THREADS {
-            objects(w, words::get(&out, 1));
+            objects(rt, w, words::get(&out, 1))?;
         }
-        show::end_line();
+        show::end_line(rt)?;
     }
-    true
+    Ok(true)
 }
 
-fn table(first: usize, most: usize, name: &[u8], w: &[u64], kept: &mut [u64]) {
+fn table(
+    rt: &impl Print,
+    first: usize,
+    most: usize,
+    name: &[u8],
+    w: &[u64],
+    kept: &mut [u64],
+) -> io::Result<()> {
     let mut i: usize = 0;
     while i < most {
-        if !shows(first, i, name, w, kept) {
-            return;
+        if !shows(rt, first, i, name, w, kept)? {
+            return Ok(());
         }
         i += 1;
     }
+    Ok(())
 }
 
 // ---- mutexes, which are read by key alone
 
-fn owner(w: &[u64], key: u64, i: usize, kept: &mut [u64]) {
+fn owner(rt: &impl Print, w: &[u64], key: u64, i: usize, kept: &mut [u64]) -> io::Result<()> {
     let mut out = [0u64; 24];
     let number = scheduler_calls::scheduler_mutex_owner(w, key, &mut out);
     show::refuse(&mut out, number);
     if show::is_news(kept, place(OWNERS, i), &out) {
-        show::title_of(b"owner", key);
-        show::answer(&out);
-        show::end_line();
+        show::title_of(rt, b"owner", key)?;
+        show::answer(rt, &out)?;
+        show::end_line(rt)?;
     }
+    Ok(())
 }
 
-fn waiters(w: &[u64], key: u64, i: usize, kept: &mut [u64]) {
+fn waiters(rt: &impl Print, w: &[u64], key: u64, i: usize, kept: &mut [u64]) -> io::Result<()> {
     let mut out = [0u64; 24];
     let number = scheduler_calls::scheduler_mutex_waiters(w, key, &mut out);
     show::refuse(&mut out, number);
     if show::is_news(kept, place(WAITERS, i), &out) {
-        show::title_of(b"waiters", key);
-        show::answer(&out);
-        show::end_line();
+        show::title_of(rt, b"waiters", key)?;
+        show::answer(rt, &out)?;
+        show::end_line(rt)?;
     }
+    Ok(())
 }
 
-fn mutex(w: &[u64], i: usize, kept: &mut [u64]) {
+fn mutex(rt: &impl Print, w: &[u64], i: usize, kept: &mut [u64]) -> io::Result<()> {
     let key = words::get_in(kept, show::KEYS_AT, i);
-    owner(w, key, i, kept);
-    waiters(w, key, i, kept);
+    owner(rt, w, key, i, kept)?;
+    waiters(rt, w, key, i, kept)
 }
 
-fn mutexes(w: &[u64], count: usize, kept: &mut [u64]) {
+fn mutexes(rt: &impl Print, w: &[u64], count: usize, kept: &mut [u64]) -> io::Result<()> {
     let mut i: usize = 0;
     while i < count {
-        mutex(w, i, kept);
+        mutex(rt, w, i, kept)?;
         i += 1;
     }
+    Ok(())
 }
 
 // ---- reads with no argument
@@ -154,42 +173,54 @@ fn read(index: usize, w: &[u64], out: &mut [u64]) -> u64 {
     }
 }
 
-fn single(index: usize, name: &[u8], w: &[u64], kept: &mut [u64]) {
+fn single(
+    rt: &impl Print,
+    index: usize,
+    name: &[u8],
+    w: &[u64],
+    kept: &mut [u64],
+) -> io::Result<()> {
     let mut out = [0u64; 24];
     let number = read(index, w, &mut out);
     show::refuse(&mut out, number);
     if show::is_news(kept, place(SINGLE, index), &out) {
-        show::title(name);
-        show::answer(&out);
-        show::end_line();
+        show::title(rt, name)?;
+        show::answer(rt, &out)?;
+        show::end_line(rt)?;
     }
+    Ok(())
 }
 
-fn threads_and_objects(w: &[u64], count: usize, kept: &mut [u64]) {
-    single(0, b"current", w, kept);
-    table(THREADS, MOST_THREADS, b"thread", w, kept);
-    mutexes(w, count, kept);
-    table(EVENTS, POSITIONS, b"event", w, kept);
+fn threads_and_objects(
+    rt: &impl Print,
+    w: &[u64],
+    count: usize,
+    kept: &mut [u64],
+) -> io::Result<()> {
+    single(rt, 0, b"current", w, kept)?;
+    table(rt, THREADS, MOST_THREADS, b"thread", w, kept)?;
+    mutexes(rt, w, count, kept)?;
+    table(rt, EVENTS, POSITIONS, b"event", w, kept)
 }
 
-fn timers_and_dpcs(w: &[u64], kept: &mut [u64]) {
-    table(TIMERS, POSITIONS, b"timer", w, kept);
-    single(1, b"pending timer", w, kept);
-    single(2, b"timer initializations", w, kept);
-    table(DPCS, POSITIONS, b"dpc", w, kept);
-    single(3, b"dpc initializations", w, kept);
+fn timers_and_dpcs(rt: &impl Print, w: &[u64], kept: &mut [u64]) -> io::Result<()> {
+    table(rt, TIMERS, POSITIONS, b"timer", w, kept)?;
+    single(rt, 1, b"pending timer", w, kept)?;
+    single(rt, 2, b"timer initializations", w, kept)?;
+    table(rt, DPCS, POSITIONS, b"dpc", w, kept)?;
+    single(rt, 3, b"dpc initializations", w, kept)
 }
 
-fn work(w: &[u64], kept: &mut [u64]) {
-    table(QUEUE, POSITIONS, b"queued", w, kept);
-    single(4, b"active", w, kept);
-    single(5, b"next", w, kept);
-    single(6, b"policy", w, kept);
-    single(7, b"counters", w, kept);
+fn work(rt: &impl Print, w: &[u64], kept: &mut [u64]) -> io::Result<()> {
+    table(rt, QUEUE, POSITIONS, b"queued", w, kept)?;
+    single(rt, 4, b"active", w, kept)?;
+    single(rt, 5, b"next", w, kept)?;
+    single(rt, 6, b"policy", w, kept)?;
+    single(rt, 7, b"counters", w, kept)
 }
 
-pub fn state(w: &[u64], count: usize, kept: &mut [u64]) {
-    threads_and_objects(w, count, kept);
-    timers_and_dpcs(w, kept);
-    work(w, kept);
+pub fn state(rt: &impl Print, w: &[u64], count: usize, kept: &mut [u64]) -> io::Result<()> {
+    threads_and_objects(rt, w, count, kept)?;
+    timers_and_dpcs(rt, w, kept)?;
+    work(rt, w, kept)
 }

@@ -1,6 +1,6 @@
 // The text of an answer, and what of it has been shown before.
-use libc::STDOUT_FILENO;
 use script_lex::lex;
+use std::io;
 
 // The words of an answer: a tag, its values, and last the number of the refusal.
 pub const ANSWER: usize = 24;
@@ -36,31 +36,31 @@ pub fn forget(kept: &mut [u64]) {
     }
 }
 
-fn tag(t: u64) {
+fn tag(rt: &impl Print, t: u64) -> io::Result<()> {
     match t {
-        1 => io::write_all(STDOUT_FILENO, b"done"),
-        2 => io::write_all(STDOUT_FILENO, b"none"),
-        3 => io::write_all(STDOUT_FILENO, b"thread"),
-        4 => io::write_all(STDOUT_FILENO, b"flag"),
-        5 => io::write_all(STDOUT_FILENO, b"count"),
-        6 => io::write_all(STDOUT_FILENO, b"satisfied"),
-        7 => io::write_all(STDOUT_FILENO, b"timeout"),
-        8 => io::write_all(STDOUT_FILENO, b"blocked"),
-        9 => io::write_all(STDOUT_FILENO, b"run"),
-        10 => io::write_all(STDOUT_FILENO, b"advance"),
-        11 => io::write_all(STDOUT_FILENO, b"deadlocked"),
-        12 => io::write_all(STDOUT_FILENO, b"finished"),
-        13 => io::write_all(STDOUT_FILENO, b"event"),
-        14 => io::write_all(STDOUT_FILENO, b"timer"),
-        15 => io::write_all(STDOUT_FILENO, b"dpc"),
-        16 => io::write_all(STDOUT_FILENO, b"work"),
-        17 => io::write_all(STDOUT_FILENO, b"no policy"),
-        18 => io::write_all(STDOUT_FILENO, b"policy"),
-        19 => io::write_all(STDOUT_FILENO, b"counters"),
-        20 => io::write_all(STDOUT_FILENO, b"thread record"),
-        21 => io::write_all(STDOUT_FILENO, b"object"),
-        _ => io::write_all(STDOUT_FILENO, b"?"),
-    };
+        1 => rt.write_all(b"done"),
+        2 => rt.write_all(b"none"),
+        3 => rt.write_all(b"thread"),
+        4 => rt.write_all(b"flag"),
+        5 => rt.write_all(b"count"),
+        6 => rt.write_all(b"satisfied"),
+        7 => rt.write_all(b"timeout"),
+        8 => rt.write_all(b"blocked"),
+        9 => rt.write_all(b"run"),
+        10 => rt.write_all(b"advance"),
+        11 => rt.write_all(b"deadlocked"),
+        12 => rt.write_all(b"finished"),
+        13 => rt.write_all(b"event"),
+        14 => rt.write_all(b"timer"),
+        15 => rt.write_all(b"dpc"),
+        16 => rt.write_all(b"work"),
+        17 => rt.write_all(b"no policy"),
+        18 => rt.write_all(b"policy"),
+        19 => rt.write_all(b"counters"),
+        20 => rt.write_all(b"thread record"),
+        21 => rt.write_all(b"object"),
+        _ => rt.write_all(b"?"),
+    }
 }
 
 // How many words there are up to the last that is not 0, but for the refusal.
@@ -75,41 +75,42 @@ fn used(out: &[u64]) -> usize {
     0
 }
 
-fn values(out: &[u64], from: usize, to: usize) {
+fn values(rt: &impl Print, out: &[u64], from: usize, to: usize) -> io::Result<()> {
     let mut i = from;
     while i < to {
-        io::write_all(STDOUT_FILENO, b" ");
-        io::print_decimal(STDOUT_FILENO, words::get(out, i));
+        rt.write_all(b" ")?;
+        rt.print(words::get(out, i))?;
         i += 1;
     }
+    Ok(())
 }
 
 // The tag by its name and the values, noughts at the end left out; or the refusal.
-pub fn answer(out: &[u64]) {
+pub fn answer(rt: &impl Print, out: &[u64]) -> io::Result<()> {
     let number = words::get(out, REFUSED);
     if number != 0 {
-        io::write_all(STDOUT_FILENO, b"refused ");
-        io::print_decimal(STDOUT_FILENO, number);
-        return;
+        rt.write_all(b"refused ")?;
+        return rt.print(number);
     }
-    tag(words::get(out, 0));
-    values(out, 1, used(out));
+    tag(rt, words::get(out, 0))?;
+    values(rt, out, 1, used(out))
 }
 
 fn wide(b: u8) -> u64 {
     b as u64
 }
 
-fn image(bytes: &[u8], size: u64) {
-    io::write_all(STDOUT_FILENO, b" ");
+fn image(rt: &impl Print, bytes: &[u8], size: u64) -> io::Result<()> {
+    rt.write_all(b" ")?;
     let mut i: usize = 0;
     while i < bytes.len() {
         if size <= (i as u64) {
-            return;
+            return Ok(());
         }
-        io::print_hex(STDOUT_FILENO, wide(bytes[i]), 2);
+        print!(rt; "{:02x}", wide(bytes[i]))?;
         i += 1;
     }
+    Ok(())
 }
 
 // How many numbers of a deadlock there can be.
@@ -118,22 +119,27 @@ fn most(n: u64) -> usize {
 }
 
 // What a call answers beside `out`: the numbers of a deadlock, or an image's bytes.
-pub fn beside(out: &[u64], line: &[u8], waiting: &[u64], bytes: &[u8]) {
+pub fn beside(
+    rt: &impl Print,
+    out: &[u64],
+    line: &[u8],
+    waiting: &[u64],
+    bytes: &[u8],
+) -> io::Result<()> {
     if words::get(out, REFUSED) != 0 {
-        return;
+        return Ok(());
     }
     let n = words::get(out, 1);
     if words::get(out, 0) == DEADLOCKED {
-        values(waiting, 0, most(n));
-        return;
+        return values(rt, waiting, 0, most(n));
     }
     if lex::is_word(line, 0, b"timer_image") {
-        image(bytes, n);
-        return;
+        return image(rt, bytes, n);
     }
     if lex::is_word(line, 0, b"dpc_image") {
-        image(bytes, n);
+        return image(rt, bytes, n);
     }
+    Ok(())
 }
 
 fn same(kept: &[u64], at: usize, out: &[u64]) -> bool {
@@ -177,21 +183,21 @@ pub fn is_news(kept: &mut [u64], at: usize, out: &[u64]) -> bool {
 }
 
 // The name of a read.
-pub fn title(name: &[u8]) {
-    io::write_all(STDOUT_FILENO, b"  ");
-    io::write_all(STDOUT_FILENO, name);
-    io::write_all(STDOUT_FILENO, b": ");
+pub fn title(rt: &impl Print, name: &[u8]) -> io::Result<()> {
+    rt.write_all(b"  ")?;
+    rt.write_all(name)?;
+    rt.write_all(b": ")
 }
 
 // The name of a read and its argument.
-pub fn title_of(name: &[u8], argument: u64) {
-    io::write_all(STDOUT_FILENO, b"  ");
-    io::write_all(STDOUT_FILENO, name);
-    io::write_all(STDOUT_FILENO, b" ");
-    io::print_decimal(STDOUT_FILENO, argument);
-    io::write_all(STDOUT_FILENO, b": ");
+pub fn title_of(rt: &impl Print, name: &[u8], argument: u64) -> io::Result<()> {
+    rt.write_all(b"  ")?;
+    rt.write_all(name)?;
+    rt.write_all(b" ")?;
+    rt.print(argument)?;
+    rt.write_all(b": ")
 }
 
-pub fn end_line() {
-    io::write_all(STDOUT_FILENO, b"\n");
+pub fn end_line(rt: &impl Print) -> io::Result<()> {
+    rt.write_all(b"\n")
 }

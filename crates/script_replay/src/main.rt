@@ -1,9 +1,15 @@
 // Replays stored scripts from standard input: each is run on a bench of its own, and a line `#` ends it and is written as it is.
 #![tactic(auto)]
+
 ghost use Rattle.script_bytes.specs.Bytes.{Within};
 
-use libc::{STDIN_FILENO, STDOUT_FILENO};
 use script_bytes::Place;
+use std::io::{Input, Read};
+
+// Answers that cannot be written are lost.
+fn write(rt: &impl Print, answers: &[u8]) {
+    let _ = rt.write_all(answers);
+}
 
 // Whether the line that has come is `#`.
 fn is_mark(line: &[u8], p: Place) -> bool {
@@ -17,6 +23,7 @@ fn is_mark(line: &[u8], p: Place) -> bool {
 }
 
 fn step(
+    rt: &impl Print,
     w: &mut [u64],
     waiting: &mut [u64],
     list: &mut [u64],
@@ -31,8 +38,8 @@ fn step(
     if b == b'\n' {
         if is_mark(line, p) {
             let n = p.written;
-            io::write_all(STDOUT_FILENO, &text[..n]);
-            io::write_all(STDOUT_FILENO, b"#\n");
+            write(rt, &text[..n]);
+            write(rt, b"#\n");
             return script_bytes::start();
         }
     }
@@ -40,6 +47,7 @@ fn step(
 }
 
 fn take(
+    rt: &impl Print,
     w: &mut [u64],
     waiting: &mut [u64],
     list: &mut [u64],
@@ -54,29 +62,29 @@ fn take(
     let mut at = script_bytes::from_start(p);
     let mut i: usize = 0;
     while i < part.len() {
-        at = step(w, waiting, list, line, text, part[i], at);
+        at = step(rt, w, waiting, list, line, text, part[i], at);
         i += 1;
     }
     at
 }
 
-// The loop counts its turns down, from a number that no run uses up.
-fn main() {
+// The loop counts its turns, up to a number that no run uses up. A read that fails ends the input.
+fn main(rt: HostRuntime) {
+    let mut input = rt.reader();
     let mut w = [0u64; 6912];
     let mut waiting = [0u64; 16];
     let mut list = [0u64; 2048];
     let mut line = [0u8; 4097];
     let mut text = [0u8; 409600];
     let mut at = script_bytes::start();
-    let mut turns = u64::MAX;
-    while turns > 0 {
+    for _ in 0..u64::MAX {
         let mut part = [0u8; 1024];
-        let got = libc::read(STDIN_FILENO, &mut part);
-        if got <= 0 {
+        let n = input.read(&mut part).unwrap_or(0);
+        if n == 0 {
             break;
         }
-        let n = io::count(got, &part);
         at = take(
+            &rt,
             &mut w,
             &mut waiting,
             &mut list,
@@ -86,10 +94,9 @@ fn main() {
             at,
         );
         let written = at.written;
-        io::write_all(STDOUT_FILENO, &text[..written]);
-        turns -= 1;
+        write(&rt, &text[..written]);
     }
     let last = script_bytes::end(&mut w, &mut waiting, &mut list, &line, &mut text, at);
     let written = last.written;
-    io::write_all(STDOUT_FILENO, &text[..written]);
+    write(&rt, &text[..written]);
 }

@@ -1,0 +1,7 @@
+use Rattle.std.proofs.Common.{arith}
+use Rattle.script_bytes.specs.Bytes.{begun}
+use Rattle.script_loop.proofs.run.Goals as goal
+
+pub loop-init : goal.loop-init
+unfolding begun
+loop-init g c = simp c.start-at.ensures (omega arith, omega arith)
