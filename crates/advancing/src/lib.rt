@@ -1,5 +1,6 @@
 // The passing of time: timers expire, then wakes by objects, then timeouts by thread number.
 #![tactic(auto)]
+
 ghost use Rattle.std.specs.Prelude.{◌≡◌};
 ghost use Rattle.answers.specs.Outcome.{outcome};
 ghost use Rattle.advancing.specs.Advance.{overdue, expired, expired_all, advanced};

@@ -1,5 +1,6 @@
 // What a call answers: its Rust result, or the number of its refusal.
 #![tactic(auto)]
+
 #[derive(Clone, Copy)]
 pub enum Answer {
     // The call is refused, by a number of document 01's table.

@@ -1,5 +1,6 @@
 // The two architectures of a guest.
 #![tactic(auto)]
+
 ghost use Rattle.std.specs.Prelude.{◌≡◌};
 ghost use Rattle.arch.specs.Width.{width_of};
 

@@ -1,5 +1,6 @@
 // Timers set and cancelled.
 #![tactic(auto)]
+
 ghost use Rattle.std.specs.Prelude.{◌≡◌, ◌+◌, ◌<◌, get_or};
 ghost use Rattle.answers.specs.Outcome.{outcome};
 ghost use Rattle.arming.specs.Arm.{named_elsewhere, new_refusal, former_busy, set_refusal, named, unnamed, setting_of, setting_put, armed, timer_set, same_word, own_origin, own_work, own_queued, withdrawn_own, disarmed, timer_cancelled, timer_set_signed};

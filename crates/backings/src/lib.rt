@@ -1,5 +1,6 @@
 // The backing of a timer or a DPC, from the numbers that a caller of the library gives.
 #![tactic(auto)]
+
 ghost use Rattle.std.specs.Prelude.{◌≡◌};
 ghost use Rattle.backings.specs.Lent.{lent_backing};
 

@@ -1,5 +1,6 @@
 // Records chained by a next index, 0 at the end: the ready queues, the waiters and the DPC queue are such chains.
 #![tactic(auto)]
+
 ghost use Rattle.std.specs.Prelude.{◌≡◌, get_or};
 ghost use Rattle.chains.specs.Chain.{link_at, first_of, next_of, pushed, unlinked, find_before, removed};
 

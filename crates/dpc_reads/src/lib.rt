@@ -1,5 +1,6 @@
 // What is read of DPCs, of the queue, and of the policy.
 #![tactic(auto)]
+
 ghost use Rattle.std.specs.Prelude.{◌≡◌};
 ghost use Rattle.dpc_reads.specs.Reads.{dpc_numbered, dpc_read, dpcs_at, active_dpc, next_dpc, policy_read, counters_read, stepped, queued_number, queued_dpcs, initializations_read};
 

@@ -1,5 +1,6 @@
 // DPCs made and taken out. Both change the numbers of DPCs, and with them the links of the queue.
 #![tactic(auto)]
+
 ghost use Rattle.std.specs.Prelude.{◌≡◌, ◌≤◌};
 ghost use Rattle.chains.specs.Chain.{next_of};
 ghost use Rattle.dpc_table.specs.Table.{put_idle, put_image, put_dpc, raised_number, number_raised, links_raised, inserted, entered, number_put, number_to, numbered, new_number, link_renewed, links_renewed, relinked, settled, closed_up};

@@ -4,7 +4,6 @@ use Rattle.words.specs.Layout as at
 use Rattle.chains.specs.Chain.{first_of, unlinked}
 use Rattle.dpcs.specs.Record.{number_of, place_at, queue_chain, work_at}
 use Rattle.dpcs.specs.Named.{is_named}
-use Rattle.answers.specs.declared.Answer.{Answer}
 use Rattle.answers.specs.declared.Answer.TheVariants as answer
 use Rattle.answers.specs.Outcome.{Outcome, outcome, unless}
 use Rattle.dpc_queue.specs.declared.Origin.{Origin}

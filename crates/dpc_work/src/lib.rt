@@ -1,5 +1,6 @@
 // The calls that select a policy, put work into the DPC queue, take it out, and run it. They are total: words out of form get an answer too, if no useful one.
 #![tactic(auto)]
+
 ghost use Rattle.std.specs.Prelude.{◌≡◌};
 ghost use Rattle.answers.specs.Outcome.{outcome};
 ghost use Rattle.dpc_work.specs.Work.{untouched, configure_refusal, policy_set, configured, duplicate_refusal, work_refusal, insert_refusal, caller_origin, queue_inserted, queue_removed, start_refusal, head_started, start_outcome, work_started, phase_refusal, returning, work_returned, idle, work_restored};

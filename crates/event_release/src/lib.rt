@@ -1,5 +1,6 @@
 // The events by position, and those in memory that the guest gives back. Walks of the object table, one record after another.
 #![tactic(auto)]
+
 ghost use Rattle.std.specs.Prelude.{◌≡◌, ◌≤◌};
 ghost use Rattle.answers.specs.Outcome.{outcome};
 ghost use Rattle.event_release.specs.Release.{is_event, is_nth, passed_to, nth_event, event_states, key_held, is_held, any_held, release_refusal, release_answer, is_retired, kept, kept_to, retired, events_retired};

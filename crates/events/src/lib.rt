@@ -1,5 +1,6 @@
 // The calls on events.
 #![tactic(auto)]
+
 ghost use Rattle.std.specs.Prelude.{◌≡◌};
 ghost use Rattle.answers.specs.Outcome.{outcome};
 ghost use Rattle.events.specs.Events.{flag, new_event, event_refusal, initialized, state_at, event_state, signaled_at, was_set, was_reset};

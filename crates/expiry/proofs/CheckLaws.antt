@@ -1,5 +1,5 @@
 -- The refusal along a list, as the code walks it.
-use Rattle.std.proofs.Common.{◌≡◌, ℕ, zero, suc, ◌+◌, ◌-◌, ◌<◌, ◌≤◌, true, false, cond, eqb, List, [], ◌∷◌, length, get_or, drop, sym, refl, ap, ◌∙◌, add-one, arith, drop_of_length-le, drop-cons, eq-eqb, ne_eqb}
+use Rattle.std.proofs.Common.{◌≡◌, ℕ, ◌+◌, ◌<◌, ◌≤◌, cond, eqb, List, length, get_or, drop, sym, ap, ◌∙◌, add-one, drop_of_length-le, drop-cons, eq-eqb, ne_eqb}
 use Rattle.words.specs.Layout.{entry_at}
 use Rattle.expiry.specs.declared.check.Counts.{Counts}
 use Rattle.expiry.specs.Check.{one_refusal, counted_after, refusal_in}

@@ -1,5 +1,5 @@
 -- The expiry of a list of timers, as the code walks it.
-use Rattle.std.proofs.Common.{◌≡◌, ℕ, ◌+◌, ◌<◌, ◌≤◌, List, [], ◌∷◌, length, get_or, drop, sym, refl, ap, ◌∙◌, add-one, drop_of_length-le, drop-cons}
+use Rattle.std.proofs.Common.{◌≡◌, ℕ, ◌+◌, ◌<◌, ◌≤◌, List, length, get_or, drop, sym, ap, ◌∙◌, add-one, drop_of_length-le, drop-cons}
 use Rattle.words.specs.Layout.{entry_at}
 use Rattle.expiry.specs.Expire.{expired_one, expired_list}
 

@@ -1,9 +1,9 @@
 -- The next due by remainder, and where it passes 2^64 - 1.
-use Rattle.std.proofs.Common.{◌≡◌, ℕ, zero, suc, ◌+◌, ◌-◌, ◌*◌, ◌/◌, ◌%◌, ◌^◌, ◌<◌, ◌≤◌, Bool, true, false, cond, not, ltb, sym, refl, ap, ◌∙◌, subst, add-zero, add-mul, one-mul, mul-zero, div-add-mod', arith, ltb-false, le-ltb, lt-ltb}
+use Rattle.std.proofs.Common.{◌≡◌, ℕ, ◌+◌, ◌-◌, ◌*◌, ◌/◌, ◌%◌, ◌^◌, ◌<◌, ◌≤◌, Bool, true, false, cond, ltb, sym, refl, ap, ◌∙◌, subst, add-zero, add-mul, one-mul, mul-zero, div-add-mod', arith, ltb-false, le-ltb, lt-ltb}
 use native.Mathlib.Nat.{zero-div, mod-le}
 use Rattle.wide.specs.Checked.{checked}
 use Rattle.wide.specs.declared.Checked.TheVariants.{Value, Overflow}
-use Rattle.expiry.specs.Next.{next_by, next_due, passes, later_due}
+use Rattle.expiry.specs.Next.{next_by, next_due}
 
 -- ---- the next due by remainder
 

@@ -1,7 +1,7 @@
 -- Where no timer is due, an advance expires none.
 use mathlib.Core.Bool.{Bool, cond, true, false}
 use mathlib.Core.List.{List, []}
-use mathlib.Core.Path.{◌≡◌, refl, ap, sym, ◌∙◌}
+use mathlib.Core.Path.{◌≡◌, refl, ap, ◌∙◌}
 use Prim.Native.Nat.{ℕ}
 use lib.ListN.{get_or}
 use lib.Dec.{eqb}
@@ -9,7 +9,7 @@ use borrow.Author.Tests.{ne_eqb}
 use Rattle.words.specs.Layout as at
 use Rattle.objects.specs.Objects.{object_count, objects_base}
 use Rattle.expiry_order.specs.Order.{sorted}
-use Rattle.expiry.specs.Due.{due_in, due_list, any_due}
+use Rattle.expiry.specs.Due.{due_list, any_due}
 use Rattle.expiry.specs.Check.{refusal_in, list_refusal}
 use Rattle.expiry.specs.Expire.{expired_list}
 use Rattle.expiry_advance.specs.Advance.{arranged, order, ran, expiry_refusal, expiry_words}

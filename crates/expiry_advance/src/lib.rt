@@ -1,5 +1,6 @@
 // The expiry of an advance, whole: the due timers in order, what refuses them, and, if nothing does, what they do.
 #![tactic(auto)]
+
 ghost use Rattle.std.specs.Prelude.{◌≡◌, ◌≤◌, length, take};
 ghost use Rattle.objects.specs.Objects.{objects_base, object_count};
 ghost use Rattle.expiry.specs.Check.{list_refusal};

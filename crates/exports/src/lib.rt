@@ -1,5 +1,6 @@
 // The proved calls for C and Rust, over numbers and slices. Each answers 0 or a number of document 01's table.
 #![tactic(auto)]
+
 pub mod clock_calls;
 pub mod dpc_calls;
 pub mod image_calls;

@@ -25,6 +25,7 @@
 //
 // `timer`, `dpc_records`, `queue` and `counts` are modules of `form_dpc`.
 #![tactic(auto)]
+
 ghost use Rattle.std.specs.Prelude.{◌≡◌};
 ghost use Rattle.form.specs.Form.{in_form};
 

@@ -1,6 +1,7 @@
 // The chains in form: the waiters' sequences, and each chain with exactly its members. A chain by a next index that ends
 // cannot hold a thread twice, so that as many members as there are threads of that state are these threads.
 #![tactic(auto)]
+
 ghost use Rattle.std.specs.Prelude.{◌≡◌, ◌≤◌};
 ghost use Rattle.form_chains.specs.Chain.{sequence_at, sequences_rise, has_priority, member_passes, chain_size, waiters_stand_as, flag, bit_passes, queue_size, ready_size, ready_stand_as};
 

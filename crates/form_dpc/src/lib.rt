@@ -1,5 +1,6 @@
 // The timers and the DPCs in form: what `form` tests of them, clause by clause of document 01's sentence.
 #![tactic(auto)]
+
 ghost use Rattle.std.specs.Prelude.{◌≡◌, ◌≤◌, ◌-◌};
 ghost use Rattle.form_dpc.specs.Place.{key_rises, past_in, mapped_passes, located};
 

@@ -1,5 +1,6 @@
 // The threads in form: each record's numbers, who runs, and what the waiting ones wait for.
 #![tactic(auto)]
+
 ghost use Rattle.std.specs.Prelude.{◌≡◌};
 ghost use Rattle.form_threads.specs.Thread.{has_state, live, bad_state, record_passes, exit_passes, wait_passes, delay_passes, thread_numbers, runs_if_current, waits_for_known, waits_for_each_once, thread_passes, threads_seen, one_if};
 

@@ -1,8 +1,8 @@
 -- Laws of bytes at places.
-use Rattle.std.proofs.Common.{◌≡◌, ℕ, zero, suc, ◌+◌, ◌-◌, ◌*◌, ◌/◌, ◌%◌, ◌^◌, ◌<◌, ◌≤◌, Bool, true, false, cond, ◌⊎◌, List, [], ◌∷◌, ◌++◌, length, get_or, drop, set, replicate, sym, refl, ap, ◌∙◌, inl, inr, ⊎_elim, add-one, arith, length-set, drop-cons, get_or-set_other, get_or-set_same}
+use Rattle.std.proofs.Common.{◌≡◌, ℕ, zero, suc, ◌+◌, ◌-◌, ◌*◌, ◌/◌, ◌%◌, ◌^◌, ◌<◌, ◌≤◌, ◌⊎◌, List, [], ◌∷◌, ◌++◌, length, get_or, drop, set, replicate, refl, ap, ◌∙◌, inl, inr, ⊎_elim, add-one, arith, length-set, drop-cons, get_or-set_other, get_or-set_same}
 use lib.Pow.{mod-mod-pow, mod-pow-add, field}
 use lib.Seq.{set_out}
-use Rattle.images.specs.Field.{Field, placed, little, number, laid, holds}
+use Rattle.images.specs.Field.{Field, placed, little, number, laid}
 
 less_one : (k : ℕ) → suc k - 1 ≡ k
 less_one k = omega arith

@@ -1,5 +1,5 @@
 -- Which byte stands where in the images of timers and DPCs, for any architecture, and that each field reads back.
-use Rattle.std.proofs.Common.{◌≡◌, ℕ, zero, suc, ◌+◌, ◌-◌, ◌*◌, ◌/◌, ◌%◌, ◌^◌, ◌<◌, ◌≤◌, Bool, true, false, cond, ◌⊎◌, List, [], ◌∷◌, ◌++◌, length, get_or, replicate, sym, refl, ap, ◌∙◌, inl, inr, ⊎_elim, mod-eq_of_lt, arith, le-ltb, lt-ltb}
+use Rattle.std.proofs.Common.{◌≡◌, ℕ, ◌+◌, ◌-◌, ◌*◌, ◌/◌, ◌%◌, ◌^◌, ◌<◌, ◌≤◌, Bool, true, false, cond, ◌⊎◌, List, [], ◌∷◌, length, get_or, replicate, refl, ap, ◌∙◌, inl, inr, mod-eq_of_lt, arith, le-ltb, lt-ltb}
 use mathlib.Core.Path.{subst⁻¹}
 use lib.ListN.{length-replicate, get_or-replicate}
 use Rattle.arch.specs.declared.Architecture.{Architecture}

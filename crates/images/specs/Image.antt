@@ -1,5 +1,5 @@
 -- The bytes of a timer and of a DPC in the guest's memory, for any architecture: fields laid over bytes 0.
-use Rattle.std.specs.Prelude.{ℕ, ◌+◌, ◌-◌, ◌/◌, Bool, true, false, cond, List, [], ◌∷◌, ◌++◌, length, replicate, nat_lt}
+use Rattle.std.specs.Prelude.{ℕ, ◌+◌, ◌-◌, ◌/◌, cond, List, [], ◌∷◌, ◌++◌, length, replicate, nat_lt}
 use Rattle.arch.specs.declared.Architecture.{Architecture}
 use Rattle.arch.specs.Width.{width_of}
 use Rattle.images.specs.declared.Timer.{Timer}

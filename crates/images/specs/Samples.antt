@@ -4,7 +4,6 @@ use Rattle.arch.specs.declared.Architecture.TheVariants.{X64, X86}
 use Rattle.images.specs.declared.TimerBacking.TheVariants.{Image, NonpagedPool}
 use Rattle.images.specs.declared.Timer.{Timer}
 use Rattle.images.specs.declared.Dpc.{Dpc}
-use Rattle.images.specs.declared.DpcWork.{DpcWork}
 use Rattle.images.specs.declared.DpcOrigin.TheVariants.{Caller}
 use Rattle.images.specs.declared.DpcPhase.TheVariants.{Queued, Running}
 

@@ -1,5 +1,6 @@
 // Timers and DPCs as the guest's memory has them: where one may stand, and its bytes.
 #![tactic(auto)]
+
 pub mod field;
 
 ghost use Rattle.std.specs.Prelude.{◌≡◌, ◌≤◌, if◌then◌else◌};

@@ -13,7 +13,7 @@ use Rattle.images.specs.declared.DpcPhase.TheVariants.{Idle, Queued, Running, Re
 use Rattle.model.specs.Lists.{given}
 use Rattle.model.specs.State.{State, timer, Policy, unselected, cpu0_dispatch}
 use Rattle.model.specs.Waits.{timer_at, put_object}
-use Rattle.model.specs.Dpcs.{address_of, dpc_at, phase_at, in_phase, put_dpc, is_from, withdrawn}
+use Rattle.model.specs.Dpcs.{address_of, dpc_at, phase_at, in_phase, put_dpc, withdrawn}
 use Rattle.model.specs.Timers.{cancelled}
 use Rattle.model.specs.Refusal.{is_unselected}
 use Rattle.model.specs.Answer.{Outcome, gives, Done, Flag}

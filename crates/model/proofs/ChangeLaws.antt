@@ -9,7 +9,7 @@ use native.Mathlib.Decide.{ℕ_discrete, dec_lt}
 use borrow.Author.Tests.{eqb-true, eqb-false}
 use lib.Dec.{eqb, leb}
 use Rattle.model.specs.Lists.{Mem, is_empty, given}
-use Rattle.model.specs.State.{State, Dispatcher, Thread, Status, running, ready, waiting, exited, Wait, WaitResult, Named, Object}
+use Rattle.model.specs.State.{State, Dispatcher, Thread, Status, running, ready, waiting, exited, WaitResult, Named, Object}
 use Rattle.model.specs.Threads.{count, thread_at, change_at, thread_of, status_of, is_ready, is_waiting, is_running, placed_as, with_thread, with_objects, with_status, with_priority, with_result, first_thread, new_thread, becomes, created, prioritized, yielded, terminated, blocked, next, ran}
 use Rattle.model.specs.Waits.{mutex_at, event_at, timer_at, is_met, wake, reached, time_out}
 use Rattle.model.specs.Dpcs.{phase_at, is_queued}

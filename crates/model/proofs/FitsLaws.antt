@@ -18,8 +18,8 @@ use Rattle.images.specs.declared.DpcPhase.{DpcPhase}
 use Rattle.images.specs.declared.DpcPhase.TheVariants.{Idle, Queued, Running, Returning}
 use Rattle.model.specs.Lists.{Mem, any, keep, is_empty, given}
 use Rattle.model.specs.Table.{Rising}
-use Rattle.model.specs.State.{State, Dispatcher, Dpcs, Thread, Status, running, ready, waiting, exited, Wait, WaitResult, satisfied, timeout, Named, Mutex, Event, Object, mutex, event, timer, Policy, unselected, cpu0_dispatch}
-use Rattle.model.specs.Threads.{thread_at, thread_of, status_of, priority_of, is_ready, wait_of, with_thread, with_objects, with_sequence, with_status, with_priority, with_result, first_thread, new_thread, ready_again, waiting_thread, becomes, created, prioritized, yielded, terminated, woken, blocked, next, ran, numbers_of}
+use Rattle.model.specs.State.{State, Dispatcher, Dpcs, Thread, Status, running, ready, waiting, exited, WaitResult, satisfied, timeout, Named, Mutex, Event, Object, mutex, event, timer, Policy, unselected, cpu0_dispatch}
+use Rattle.model.specs.Threads.{thread_at, thread_of, status_of, is_ready, wait_of, with_thread, with_objects, with_sequence, with_status, with_priority, with_result, first_thread, new_thread, ready_again, waiting_thread, becomes, created, prioritized, yielded, terminated, woken, blocked, next, ran, numbers_of}
 use Rattle.model.specs.Waits.{key_of, object_at, timer_at, mutex_at, event_at, put_object, owned_by, signaled_as, is_available, first_available, is_met, index, take, take_every, takes, taken_by, named_in, no_object, can_wake, wake_one, pass, wake, reached, is_overdue, time_out_each, time_out}
 use Rattle.model.specs.Dpcs.{address_of, dpc_at, phase_at, put_dpc, rephased, in_phase, is_busy, is_queued, work_of, new_work, accepted, duplicated, withdrawn, started, returned, restored}
 use Rattle.model.specs.Timers.{new_timer, armed, cancelled, retimed, expired, is_periodic, next_due, due_timers, Expired, expire_one, expire_each, dpcs_after, work_queued, origin_of}

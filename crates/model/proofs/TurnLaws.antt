@@ -29,7 +29,6 @@ use Rattle.model.specs.Turns.{IsReady, Prioritizes, Places, StaysReady, EarlierW
 use Rattle.model.proofs.AheadLaws.{Ahead, ahead_before, before-left, before-once, Keeps, keeps_same, keeps_on, keeps_placed, ahead-placed}
 use Rattle.model.proofs.NumberLaws.{number-passes, numbers-rise, lesser-first, same_once}
 use Rattle.model.proofs.VisitLaws.{Asleep, Fate, sleeps, wakes, WasSatisfied, HasTimedOut, wake-others, wake-fate, wake-ahead, late, timeout-others, timeout-fate, timeout-ahead}
-use Rattle.model.proofs.ChangeLaws as changed
 use Rattle.model.proofs.ChangeLaws.{Prepared, Change, still, one, none-ready, woke, moved_on, step-changes}
 
 -- ---- small things

@@ -1,5 +1,6 @@
 // The calls on mutexes. They are total: words out of form get an answer too, if no useful one.
 #![tactic(auto)]
+
 ghost use Rattle.std.specs.Prelude.{◌≡◌};
 ghost use Rattle.answers.specs.Outcome.{outcome};
 ghost use Rattle.mutexes.specs.Mutexes.{new_mutex, owner_of, mutex_refusal, initialized, live, known_refusal, adopt_refusal, wanted_owner, adopted, owner_answer, waits_for, waiters_answer, release_refusal, freed, released};

@@ -1,5 +1,6 @@
 // Opening a scheduler in lent words.
 #![tactic(auto)]
+
 ghost use Rattle.std.specs.Prelude.{◌≡◌, false};
 ghost use Rattle.words.specs.Layout as at;
 ghost use Rattle.answers.specs.Outcome.{outcome};

@@ -1,6 +1,7 @@
 // The calls on a scheduler's words, as a user makes them. Each first checks the form of the words: words out of form are
 // refused with 27, and left as they are.
 #![tactic(auto)]
+
 pub mod changes;
 pub mod dpc_calls;
 pub mod reads;

@@ -1,5 +1,6 @@
 // The images of timers and DPCs, at the start of an output of bytes; the answer is the size of the image.
 #![tactic(auto)]
+
 ghost use Rattle.std.specs.Prelude.{◌≡◌, length};
 ghost use Rattle.model.specs.Call as call;
 ghost use Rattle.calls.specs.Called.{called};

@@ -1,5 +1,6 @@
 // Tables of records of 32 words whose first words, the keys, rise: search by halves, room made for a record, and marked records taken out.
 #![tactic(auto)]
+
 ghost use Rattle.std.specs.Prelude.{◌≡◌, ◌+◌, ◌≤◌, ◌<◌};
 ghost use Rattle.tables.specs.Compact.{is_marked, copied, moved, kept, kept_to, compacted, compacted_to};
 ghost use Rattle.tables.specs.Table.{key_at, narrowed, position, raised, gap_opened};

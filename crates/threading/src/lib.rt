@@ -1,5 +1,6 @@
 // The calls on threads. They are total: words out of form get an answer too, if no useful one.
 #![tactic(auto)]
+
 ghost use Rattle.std.specs.Prelude.{◌≡◌};
 ghost use Rattle.answers.specs.Outcome.{outcome};
 ghost use Rattle.threading.specs.Thread.{current_answer, create_refusal, created_thread, created, priority_refusal, with_priority, moved, prioritized, yielded_words, yielded, owner_at, owns_mutex, terminate_refusal, exited_words, terminated};

@@ -1,5 +1,6 @@
 // A thread's record in the words: its state, and what it waits for.
 #![tactic(auto)]
+
 ghost use Rattle.std.specs.Prelude.{◌≡◌, ◌≤◌};
 ghost use Rattle.threads.specs.Thread.{thread_of, put_thread, known, thread_count, count_of, all_of, places_at, filled, recorded, put_places, put_terms, put_wait, no_wait};
 

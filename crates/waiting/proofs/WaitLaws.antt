@@ -1,5 +1,5 @@
 -- The bound that the calls on a list need.
-use Rattle.std.proofs.Common.{◌≡◌, ℕ, ◌-◌, ◌/◌, ◌≤◌, Bool, true, false, cond, leb, List, length, refl, arith, leb-true}
+use Rattle.std.proofs.Common.{◌≡◌, ℕ, ◌/◌, ◌≤◌, Bool, true, false, cond, leb, List, length, refl, arith, leb-true}
 use Rattle.waiting.specs.Wait.{pair_count}
 
 pub pairs-most : (list : List ℕ) → pair_count list ≤ 64

@@ -7,7 +7,6 @@ use Rattle.chains.specs.Ready.{waiters_chain}
 use Rattle.threads.specs.declared.Wait.{Wait}
 use Rattle.threads.specs.Thread.{thread_of, put_thread, put_wait, recorded}
 use Rattle.waits.specs.Lists.{bad_kind_in, duplicate_in, unknown_in, owned_in, met_in, index_in, takes_list}
-use Rattle.answers.specs.declared.Answer.{Answer}
 use Rattle.answers.specs.declared.Answer.TheVariants as answer
 use Rattle.answers.specs.Outcome.{Outcome, outcome, unless, bit}
 

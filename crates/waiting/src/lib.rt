@@ -1,5 +1,6 @@
 // The calls by which the current thread waits.
 #![tactic(auto)]
+
 ghost use Rattle.std.specs.Prelude.{◌≡◌, ◌≤◌};
 ghost use Rattle.answers.specs.Outcome.{outcome, bit};
 ghost use Rattle.waiting.specs.Wait.{pair_count, list_refusal, wait_refusal, block_refusal, reached, with_result, left, parked, blocked_words, granted, timed_out, decided, decided_list, waited, delay_wait, delayed};

@@ -1,4 +1,5 @@
 // What a list of objects asks and what it takes.
 #![tactic(auto)]
+
 pub mod lists;
 pub mod object;

@@ -1,5 +1,6 @@
 // Waking: threads made ready, the wake pass, and what the waiting threads wait for.
 #![tactic(auto)]
+
 ghost use Rattle.std.specs.Prelude.{◌≡◌};
 ghost use Rattle.wakes.specs.Wake.{made_ready, awoken, grantable, visited, visited_to, awake, waits_on};
 

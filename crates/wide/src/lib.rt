@@ -1,5 +1,6 @@
 // Arithmetic past 64 bits: exact products in two words, and sums and products that say when they do not fit.
 #![tactic(auto)]
+
 ghost use Rattle.std.specs.Prelude.{◌≡◌, ◌+◌, ◌*◌, ◌/◌, ◌%◌, ◌^◌};
 ghost use Rattle.wide.specs.Checked.{checked};
 

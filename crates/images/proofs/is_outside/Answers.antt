@@ -1,4 +1,4 @@
-use Rattle.std.proofs.Common.{◌+◌, ◌^◌, true, arith, le-ltb, lt-ltb, le-leb}
+use Rattle.std.proofs.Common.{◌+◌, ◌^◌, arith, le-ltb, lt-ltb, le-leb}
 use borrow.Author.Tests.{lt-leb}
 use Rattle.images.specs.Place.{is_outside}
 use Rattle.images.proofs.is_outside.Goals as goal

@@ -1,4 +1,4 @@
-use Prim.Native.Nat.{◌-◌, ◌+◌, ◌≤◌}
+use Prim.Native.Nat.{◌+◌, ◌≤◌}
 use Rattle.chains.specs.Chain.{first_of}
 use mathlib.Core.Path.{◌≡◌}
 use Rattle.chains.specs.Ready.{waiters_chain}

@@ -1,6 +1,5 @@
 use mathlib.Core.Path.{◌≡◌}
 use native.Mathlib.Omega.{arith}
-use Prim.Native.Nat.{◌-◌}
 use Rattle.words.specs.Layout as at
 use Rattle.opening.proofs.OpenLaws.{cleared-none, cleared-next}
 use borrow.Author.Rules.{rules}

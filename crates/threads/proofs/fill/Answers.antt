@@ -1,6 +1,5 @@
 use mathlib.Core.Path.{◌≡◌}
 use native.Mathlib.Omega.{arith}
-use Prim.Native.Nat.{◌-◌}
 use Rattle.threads.proofs.ThreadLaws.{filled_none, filled_next}
 use borrow.Author.Rules.{rules}
 use Rattle.threads.proofs.fill.Goals as goal

@@ -1,6 +1,6 @@
 use Rattle.wide.specs.Checked.{checked}
 use Rattle.expiry.proofs.NextLaws.{next-early, next-late, rest-most}
-use Rattle.std.proofs.Common.{◌-◌, sym, ap, ◌∙◌}
+use Rattle.std.proofs.Common.{sym, ap, ◌∙◌}
 use Rattle.expiry.proofs.next.next_by.Goals as goal
 
 pub returns-then-time-due : goal.returns-then-time-due

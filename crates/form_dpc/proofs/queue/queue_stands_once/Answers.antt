@@ -1,4 +1,3 @@
-use Prim.Native.Nat.{◌-◌}
 use Rattle.form_dpc.proofs.FormDpcLaws.{none_over, one-over}
 use Rattle.form_dpc.proofs.queue.queue_stands_once.Goals as goal
 

@@ -1,4 +1,4 @@
-use Rattle.std.proofs.Common.{◌-◌, sym, refl, ◌∙◌, arith, rules}
+use Rattle.std.proofs.Common.{sym, refl, ◌∙◌, arith, rules}
 use Rattle.images.proofs.FieldLaws.{placed-out, bytes-none, bytes-more}
 use Rattle.images.proofs.field.put_bytes.Goals as goal
 

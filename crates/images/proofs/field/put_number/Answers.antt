@@ -1,4 +1,4 @@
-use Rattle.std.proofs.Common.{◌-◌, sym, refl, ◌∙◌, rules}
+use Rattle.std.proofs.Common.{sym, refl, ◌∙◌, rules}
 use Rattle.images.proofs.FieldLaws.{placed-out, number-none, number_more}
 use Rattle.images.proofs.field.put_number.Goals as goal
 

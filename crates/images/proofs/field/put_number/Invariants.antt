@@ -1,4 +1,4 @@
-use Rattle.std.proofs.Common.{◌≡◌, ◌-◌, length}
+use Rattle.std.proofs.Common.{◌≡◌, length}
 use Rattle.images.specs.Field.{placed, little}
 use Rattle.images.proofs.field.put_number.Given as goal
 

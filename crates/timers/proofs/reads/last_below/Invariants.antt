@@ -1,4 +1,3 @@
-use Prim.Native.Nat.{◌-◌}
 use mathlib.Core.Path.{◌≡◌}
 use Rattle.timers.specs.Reads.{last_below}
 use Rattle.timers.proofs.reads.last_below.Given as goal

@@ -1,7 +1,5 @@
 use mathlib.Core.Path.{◌≡◌, ◌∙◌, sym}
-use Prim.Native.Nat.{◌-◌}
 use mathlib.Core.Bool.{true, false}
-use borrow.Author.Tests.{not-true, not-false}
 use Rattle.waits.specs.Lists.{kind_in, key_in}
 use Rattle.waits.proofs.ListLaws.{every-none, every-stop, every_more}
 use Rattle.waits.specs.Object.{available}

@@ -1,5 +1,5 @@
 use mathlib.Core.Path.{◌≡◌}
-use Prim.Native.Nat.{◌+◌, ◌≤◌, ◌-◌}
+use Prim.Native.Nat.{◌+◌, ◌≤◌}
 use Rattle.waits.specs.Lists.{first_in}
 use Rattle.waits.proofs.lists.first.Given as goal
 

@@ -1,6 +1,5 @@
 use mathlib.Core.Path.{◌∙◌, sym}
 use native.Mathlib.Omega.{arith}
-use Prim.Native.Nat.{◌-◌}
 use Rattle.waits.proofs.ListLaws.{bad-kind-none, bad-kind-stop, bad-kind-more}
 use borrow.Author.Rules.{rules}
 use Rattle.waits.proofs.lists.has_bad_kind.Goals as goal

@@ -1,5 +1,5 @@
 use mathlib.Core.Path.{◌≡◌}
-use Prim.Native.Nat.{◌+◌, ◌≤◌, ◌-◌}
+use Prim.Native.Nat.{◌+◌, ◌≤◌}
 use Rattle.waits.specs.Lists.{bad_kind_in}
 use Rattle.waits.proofs.lists.has_bad_kind.Given as goal
 

@@ -1,5 +1,5 @@
 use mathlib.Core.Path.{◌≡◌}
-use Prim.Native.Nat.{◌+◌, ◌≤◌, ◌-◌}
+use Prim.Native.Nat.{◌+◌, ◌≤◌}
 use Rattle.waits.specs.Lists.{duplicate_in}
 use Rattle.waits.proofs.lists.has_duplicate.Given as goal
 

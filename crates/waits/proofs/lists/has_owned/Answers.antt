@@ -1,5 +1,4 @@
 use mathlib.Core.Path.{◌≡◌, ◌∙◌, sym}
-use Prim.Native.Nat.{◌-◌}
 use mathlib.Core.Bool.{true, false}
 use Rattle.waits.specs.Lists.{kind_in, key_in}
 use Rattle.waits.proofs.ListLaws.{owned-none, owned-stop, owned-more}

@@ -1,7 +1,5 @@
 use mathlib.Core.Path.{◌≡◌, ◌∙◌, sym}
-use Prim.Native.Nat.{◌-◌}
 use mathlib.Core.Bool.{true, false}
-use borrow.Author.Tests.{not-true, not-false}
 use Rattle.waits.specs.Lists.{kind_in, key_in}
 use Rattle.waits.proofs.ListLaws.{unknown-none, unknown-stop, unknown-more}
 use Rattle.waits.specs.Object.{valid}

@@ -1,5 +1,5 @@
 use mathlib.Core.Path.{◌≡◌}
-use Prim.Native.Nat.{◌+◌, ◌≤◌, ◌-◌}
+use Prim.Native.Nat.{◌+◌, ◌≤◌}
 use Rattle.waits.specs.Lists.{unknown_in}
 use Rattle.waits.proofs.lists.has_unknown.Given as goal
 

@@ -1,5 +1,4 @@
 use mathlib.Core.Path.{◌∙◌, sym}
-use Prim.Native.Nat.{◌-◌}
 use Rattle.waits.proofs.ListLaws.{own-none, own-more}
 use borrow.Author.Rules.{rules}
 use Rattle.waits.proofs.lists.take_own.Goals as goal
