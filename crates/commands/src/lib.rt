@@ -1,5 +1,6 @@
 // The commands of a script on the scheduler's words: each makes the call that the table says.
 #![tactic(auto)]
+
 ghost use Rattle.std.specs.Prelude.{◌≡◌};
 ghost use Rattle.answers.specs.Outcome.{outcome};
 ghost use Rattle.commands.specs.Commands as spec;

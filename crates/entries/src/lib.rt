@@ -1,6 +1,7 @@
 // The objects by their entry in the table, so that a list of them is read in one walk: an entry of another kind answers none, and past
 // the last entry is 2.
 #![tactic(auto)]
+
 ghost use Rattle.std.specs.Prelude.{◌≡◌};
 ghost use Rattle.entries.specs.Entries.{is_event, event_entry, timer_entry};
 

@@ -1,6 +1,7 @@
 // A line of a script to the line of its answer, and beside a refusal why. Each writer goes as far as the text has room, and answers
 // the place behind what it wrote.
 #![tactic(auto)]
+
 ghost use Rattle.std.specs.Prelude.{◌≡◌, ◌≤◌, length};
 ghost use Rattle.script_print.specs.Print.{written, printed};
 ghost use Rattle.runner.specs.Line.{answered_as};

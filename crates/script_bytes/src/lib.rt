@@ -1,5 +1,6 @@
 // The bytes of a script: cut into lines at each newline, and each line answered. The answers of one part of a script are gathered in a text.
 #![tactic(auto)]
+
 ghost use Rattle.std.specs.Prelude.{◌≡◌, ◌≤◌, length};
 ghost use Rattle.script_bytes.specs.Bytes.{Lent, Within, begun, machine, finished, byte_taken, part_taken, ended, most_part};
 

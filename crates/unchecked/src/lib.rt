@@ -1,6 +1,7 @@
 // Calls that do not check the form of the words, where that is more than the call of another crate: an argument that may be absent, and
 // an image.
 #![tactic(auto)]
+
 ghost use Rattle.std.specs.Prelude.{◌≡◌, length};
 ghost use Rattle.answers.specs.Outcome.{outcome};
 ghost use Rattle.model.specs.Call as call;
