@@ -2,6 +2,7 @@ use mathlib.Core.Path.{◌∙◌, ap}
 use mir.Syntax.{w32}
 use mir.Val.{SFits}
 use mir.Facts.{to_z-of_z}
+use Rattle.std.proofs.Common.{rules}
 use Rattle.runner.proofs.CommandLaws.{same_step, goes_on}
 use Rattle.runner.specs.Session.{new_clock}
 use Rattle.commands.specs.Commands.{asked}
@@ -14,7 +15,7 @@ returns-in-Dispatch c = simp (c.in-Dispatch.is, ← c.dispatch.ensures) (same_st
 
 pub returns-in-ClockNew : goal.returns-in-ClockNew
 unfolding asked gone_on
-returns-in-ClockNew c = let f : SFits w32 c.c-1.given.0.1.1.0 = record { sfits = c.in-ClockNew.is.1.0.1 } in simp (c.in-ClockNew.is, to_z-of_z f) (same_step _ _ _ _ (c.new_clock.ensures ∙ ap (new_clock _) (simp (to_z-of_z f) at c.new.ensures)))
+returns-in-ClockNew c = let f : SFits w32 c.in-ClockNew.offset = search rules in simp (c.in-ClockNew.is, to_z-of_z f) (same_step _ _ _ _ (c.new_clock.ensures ∙ ap (new_clock _) (simp (to_z-of_z f) at c.new.ensures)))
 
 pub returns-in-ClockInstruction : goal.returns-in-ClockInstruction
 unfolding asked gone_on
@@ -53,4 +54,4 @@ unfolding asked gone_on
 returns-in-ClockTsc c = simp (c.in-ClockTsc.is, ← c.tsc.ensures) (same_step _ _ _ _ c.told-in-ClockTsc.ensures)
 
 pub returns-in_default : goal.returns-in_default
-returns-in_default c = simp c.unchanged-in_default.ensures (goes_on _ _ _ _ c.args.c c.in_default.keys12 _ _ c.on_words.ensures)
+returns-in_default c = simp c.unchanged-in_default.ensures (goes_on _ _ _ _ c.args.c (record { dispatch = c.in_default.not-Dispatch; new = c.in_default.not-ClockNew; instruction = c.in_default.not-ClockInstruction; microseconds = c.in_default.not-ClockAdvanceMicroseconds; hundreds = c.in_default.not-ClockAdvance100ns; milliseconds = c.in_default.not-ClockAdvanceMilliseconds; flush_cycles = c.in_default.not-ClockFlushCycles; observe = c.in_default.not-ClockObserve; qpc = c.in_default.not-ClockQpc; tick64 = c.in_default.not-ClockTick64; tsc = c.in_default.not-ClockTsc }) _ _ c.on_words.ensures)

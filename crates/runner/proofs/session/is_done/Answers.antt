@@ -7,4 +7,4 @@ unfolding accepts
 returns-in-Done c = simp c.in-Done.is
 
 pub returns : goal.returns
-returns c = not_done c.args.a c.in_default.keys2
+returns c = not_done c.args.a c.in_default.not-Done

@@ -9,8 +9,8 @@ returns-then-s c = simp c.if-s.true c.go_on.ensures
 
 pub returns-in-Open : goal.returns-in-Open
 unfolding performed asked begun
-returns-in-Open c = simp (c.if-s.false, c.in-Open.is) (cc (c.begin.ensures.0, c.begin.ensures.1))
+returns-in-Open c = simp (c.if-s.false, c.in-Open.is) (cc (c.begin.ensures.value, c.begin.ensures.w_after))
 
 pub returns : goal.returns
 unfolding performed
-returns c = simp (c.if-s.false, c.unchanged.ensures) (no-open _ _ _ _ c.args.c c.in_default.keys2)
+returns c = simp (c.if-s.false, c.unchanged.ensures) (no-open _ _ _ _ c.args.c c.in_default.not-Open)
