@@ -1,5 +1,5 @@
 -- A number of the header set, on the words and in the log. All else stays, for the numbers' region is their own.
-use Prim.Native.Nat.{ℕ, ◌+◌, ◌-◌, ◌*◌, ◌≤◌}
+use Prim.Native.Nat.{ℕ, ◌+◌, ◌*◌, ◌≤◌}
 use mathlib.Core.List.{List}
 use mathlib.Core.Option.{some}
 use mathlib.Core.Path.{◌≡◌, sym, ◌∙◌, subst}

@@ -8,14 +8,13 @@ use lib.Dec.{eqb}
 use Rattle.answers.specs.Outcome as code
 use Rattle.answers.specs.Outcome.{unless}
 use Rattle.answers.specs.declared.Answer.TheVariants as answer
-use Rattle.call_answers.specs.Told.{told}
 use Rattle.model.specs.State.{State}
-use Rattle.model.specs.Answer.{Answer, Outcome, Refused, gives}
+use Rattle.model.specs.Answer.{Outcome, Refused, gives}
 use Rattle.model.specs.Call.{Call}
 use Rattle.model.specs.Step.{step, refusal, effect}
 use Rattle.model.proofs.ListLaws.{not-both}
 use Rattle.agreement.specs.Agree.{Agree}
-use Rattle.agreement.specs.Matches.{Matches, Plainly}
+use Rattle.agreement.specs.Matches.{Plainly}
 
 -- a refused call on the log, and an accepted one
 pub step-refused : (c : Call) (s : State) (n : ℕ) → refusal c s ≡ n → (n ≡ 0 → ⊥) → step c s ≡ gives (Refused n) s

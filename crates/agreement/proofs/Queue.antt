@@ -1,5 +1,5 @@
 -- A DPC put last into the queue, taken out of it, and the first one taken: on the words, by numbers, and in the log, by addresses.
-use Prim.Native.Nat.{ℕ, ◌+◌, ◌-◌, ◌*◌, ◌≤◌, ◌<◌}
+use Prim.Native.Nat.{ℕ, ◌+◌, ◌*◌, ◌≤◌, ◌<◌}
 use mathlib.Core.List.{List, [], ◌∷◌, ◌++◌, map}
 use mathlib.Core.Bool.{true, cond, not}
 use mathlib.Core.Logic.{◌⊎◌, inl, inr}

@@ -15,7 +15,7 @@ use Rattle.form.specs.Form.{in_form}
 use Rattle.model.specs.Call.{Call}
 use Rattle.calls.specs.Images.{imaged}
 use Rattle.calls.specs.Guard.{refusing, guarded, guarded_dispatch, guarded_start, readable, image_refused, guarded_image}
-use Rattle.calls.specs.Called.{Reading, tells, images, Meaning, opens, acts, starts, dispatches, reads, meaning, ReadResult, Result, run_read, run, called}
+use Rattle.calls.specs.Called.{Reading, tells, images, Meaning, opens, acts, starts, dispatches, reads, meaning, run_read, run, called}
 use Rattle.unchecked.specs.Unchecked.{fitting, reads_bare, runs_bare, unchecked}
 
 module _ (w : List ℕ) (f : in_form w ≡ true) where
