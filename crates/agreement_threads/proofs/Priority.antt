@@ -17,7 +17,7 @@ use Rattle.waits.specs.Object as words-object
 use Rattle.opening.specs.Open.{bad_priority}
 use Rattle.threading.specs.Thread as words
 use Rattle.model.specs.Lists.{Mem, without}
-use Rattle.model.specs.State.{State, Dispatcher, Thread, ready, exited}
+use Rattle.model.specs.State.{State, Dispatcher, Thread, ready}
 use Rattle.model.specs.Threads.{becomes, prioritized, change_at, thread_of, status_of, priority_of, is_thread, is_ready, has_exited, with_thread, with_priority}
 use Rattle.model.specs.Valid.{Valid}
 use Rattle.model.specs.Refusal.{priority_refusal, not_priority}
