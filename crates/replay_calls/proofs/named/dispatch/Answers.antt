@@ -1,6 +1,0 @@
-use mathlib.Core.Path.{sym}
-use lib.Seq.{length-take-le}
-use Rattle.replay_calls.proofs.named.dispatch.Goals as goal
-
-pub slice_bounds-scheduler_dispatch-end-2 : goal.slice_bounds-scheduler_dispatch-end-2
-slice_bounds-scheduler_dispatch-end-2 c = sym (length-take-le c.shorter-most.result c.args.waiting.now c.shorter-most.ensures)
