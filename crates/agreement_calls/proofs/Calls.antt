@@ -3,14 +3,14 @@ use Prim.Native.Nat.{ℕ}
 use mathlib.Core.List.{List}
 use mathlib.Core.Bool.{true}
 use mathlib.Core.Option.{none, some}
-use mathlib.Core.Path.{◌≡◌, refl, sym, ap, ◌∙◌, subst}
-use lib.ListN.{length, replicate, length-replicate}
+use mathlib.Core.Path.{◌≡◌, sym, subst}
+use lib.ListN.{length, length-replicate}
 use Rattle.answers.specs.Outcome as code
 use Rattle.dispatcher.specs.Dispatch.{Dispatched}
 use Rattle.dispatcher.specs.Dispatched.{dispatched}
 use Rattle.dpc_work.specs.Work.{Started}
 use Rattle.form.specs.Form.{in_form}
-use Rattle.call_answers.specs.Told.{told_with, told, told_work}
+use Rattle.call_answers.specs.Told.{told_with, told_work}
 use Rattle.calls.specs.Guard.{guarded, guarded_dispatch, guarded_start}
 use Rattle.calls.specs.Called.{called}
 use Rattle.calls.specs.Run.{answered, left, Lent}

@@ -5,7 +5,7 @@ use mathlib.Core.Bool.{Bool, true, cond}
 use mathlib.Core.Path.{◌≡◌, ap}
 use Rattle.answers.specs.declared.Answer.TheVariants.{Refused}
 use Rattle.answers.specs.Outcome.{Outcome, outcome}
-use Rattle.dispatcher.specs.Dispatch.{Dispatched, told}
+use Rattle.dispatcher.specs.Dispatch.{told}
 use Rattle.dispatcher.specs.Dispatched.{dispatched}
 use Rattle.dpc_work.specs.Work.{Started, start_outcome}
 use Rattle.dpc_work.specs.declared.WorkAnswer.TheVariants as work

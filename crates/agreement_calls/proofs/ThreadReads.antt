@@ -1,30 +1,28 @@
 -- `thread` and `threads`: what they and `waited_object` read together is the log's thread, with what it waits for.
-use Prim.Native.Nat.{ℕ, zero, suc, ◌+◌}
+use Prim.Native.Nat.{ℕ, suc, ◌+◌}
 use mathlib.Core.List.{List, [], ◌∷◌}
 use mathlib.Core.Bool.{Bool, true, false, cond, not}
 use mathlib.Core.Option.{Option, none, some}
-use mathlib.Core.Path.{◌≡◌, refl, sym, ap, ◌∙◌, subst}
+use mathlib.Core.Path.{◌≡◌, refl, sym, ap, ◌∙◌}
 use native.Mathlib.Omega.{arith}
 use lib.Dec.{eqb}
 use lib.ListN.{length}
 use Rattle.dispatcher.specs.declared.read.ThreadView.{ThreadView}
-use Rattle.dispatcher.specs.declared.read.ThreadAnswer.{ThreadAnswer}
-use Rattle.dispatcher.specs.declared.read.ThreadAnswer.TheVariants as thread
 use Rattle.dispatcher.specs.declared.read.PlaceAnswer.{PlaceAnswer}
 use Rattle.dispatcher.specs.declared.read.PlaceAnswer.TheVariants as object
 use Rattle.dispatcher.specs.Read.{view_of, thread_read, threads_at, waited_object}
 use Rattle.call_answers.specs.Told.{told_object}
 use Rattle.calls.specs.Run.{named_by, objects_read, status_read, result_read, view_read, told_thread}
 use Rattle.model.specs.Lists.{nth, given}
-use Rattle.model.specs.State.{State, Thread, Status, running, ready, waiting, exited, Wait, WaitResult, satisfied, timeout, Named}
-use Rattle.model.specs.Threads.{thread_of, status_of, is_thread, with_status, with_priority, with_result}
+use Rattle.model.specs.State.{State, Status, running, ready, waiting, exited, Wait, WaitResult, satisfied, timeout, Named}
+use Rattle.model.specs.Threads.{thread_of, is_thread, with_status, with_priority, with_result}
 use Rattle.model.specs.Waits.{no_object}
 use Rattle.model.specs.Answer.{Answer, None, ObjectIs, ThreadIs}
 use Rattle.model.specs.Answer as log
 use Rattle.model.specs.Reads.{read_refusal, read_answer, thread_answer}
 use Rattle.model.specs.Call as call
 use Rattle.model.specs.Step.{step}
-use Rattle.agreement.specs.Records.{flag, timed, status_number, result_number, exit_status}
+use Rattle.agreement.specs.Records.{timed, status_number, result_number, exit_status}
 use Rattle.agreement.specs.Agree.{Agree}
 use Rattle.agreement.proofs.Records.{flag-read}
 use Rattle.agreement_threads.proofs.Views.{WaitViewIs, ViewIs, thread-read, thread-unread, threads-read, waited-is}

@@ -16,7 +16,6 @@ use Rattle.model.specs.State.{State}
 use Rattle.model.specs.Refusal.{is_unselected, is_untouched, configure_refusal}
 use Rattle.model.specs.Step.{step, refusal, effect, configured}
 use Rattle.model.specs.Call as call
-use Rattle.model.specs.Answer.{Done}
 use Rattle.agreement.specs.Records.{holder_of, active_address}
 use Rattle.agreement.specs.Agree.{Agree}
 use Rattle.agreement.specs.Matches.{Plainly}

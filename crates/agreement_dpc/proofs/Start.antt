@@ -27,7 +27,7 @@ use Rattle.model.specs.Dpcs.{address_of, dpc_at, phase_at, rephased, is_idle, is
 use Rattle.model.specs.Refusal.{is_head, start_refusal}
 use Rattle.model.specs.Step.{with_dpcs, step, refusal, effect, dpc_started}
 use Rattle.model.specs.Call as call
-use Rattle.model.specs.Answer.{Outcome, gives, Refused, WorkIs}
+use Rattle.model.specs.Answer.{Outcome, gives, WorkIs}
 use Rattle.model.specs.Valid.{Valid}
 use Rattle.model.proofs.ListLaws.{not-both, mem-member}
 use Rattle.model.proofs.TableLaws.{some_same, found}

@@ -10,7 +10,7 @@ use Rattle.images.specs.declared.TimerBacking.{TimerBacking}
 use Rattle.images.specs.Place.{architecture_number, architecture_of, backing_kind, backing_base, backing_size, backing_mapped, backing_of}
 use Rattle.timers.specs.Record.{backing_at, timer_at}
 use Rattle.model.specs.Table.{Rising}
-use Rattle.model.specs.State.{Object, mutex, event, timer}
+use Rattle.model.specs.State.{Object}
 use Rattle.model.specs.Waits.{key_of, object_at}
 use Rattle.model.specs.Valid.{Each}
 use Rattle.model.proofs.TableLaws.{found}

@@ -9,7 +9,6 @@ use borrow.Author.Tests.{ne_eqb, le-leb, le-ltb}
 use lib.ListN.{get_or}
 use lib.Dec.{eqb, leb, ltb}
 use Rattle.words.specs.Layout as at
-use Rattle.images.specs.declared.Timer.{Timer}
 use Rattle.images.specs.declared.Dpc.{Dpc}
 use Rattle.images.specs.declared.DpcWork.{DpcWork}
 use Rattle.images.specs.declared.DpcOrigin.{DpcOrigin}

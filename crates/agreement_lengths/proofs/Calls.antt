@@ -1,8 +1,8 @@
 -- No call changes how many words there are, be they in form or not.
 use Prim.Native.Nat.{ℕ}
-use mathlib.Core.List.{List, [], ◌∷◌}
+use mathlib.Core.List.{List}
 use mathlib.Core.Option.{none, some}
-use mathlib.Core.Path.{◌≡◌, refl, ◌∙◌}
+use mathlib.Core.Path.{◌≡◌, refl}
 use lib.ListN.{length}
 use Rattle.answers.specs.Outcome.{Outcome}
 use Rattle.dpc_work.specs.Work.{Started}

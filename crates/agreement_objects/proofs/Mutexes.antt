@@ -21,7 +21,7 @@ use Rattle.model.specs.Waits.{mutex_at, put_object}
 use Rattle.model.specs.Valid.{Valid}
 use Rattle.model.specs.Refusal.{collides, is_full, is_owned, is_waited_on, mutex_refusal, adopt_refusal, owner_refusal}
 use Rattle.model.specs.Reads.{read_refusal, read_answer, number_or_none}
-use Rattle.model.specs.Answer.{Outcome, Done, None, ThreadNumber, Number}
+use Rattle.model.specs.Answer.{Outcome, None, ThreadNumber, Number}
 use Rattle.model.specs.Call as call
 use Rattle.model.specs.Step.{step, refusal, effect, with_table, adopted}
 use Rattle.model.proofs.RowLaws.{passes}

@@ -20,7 +20,7 @@ use Rattle.timers.specs.Initialize as code
 use Rattle.answers.specs.declared.Answer.TheVariants as answer
 use Rattle.answers.specs.Outcome.{outcome}
 use Rattle.model.specs.Lists.{present, given}
-use Rattle.model.specs.State.{State, Object, timer}
+use Rattle.model.specs.State.{State, timer}
 use Rattle.model.specs.Waits.{key_of, object_at, timer_at, put_object}
 use Rattle.model.specs.Timers.{lifetime, new_timer}
 use Rattle.model.specs.Valid.{Valid}

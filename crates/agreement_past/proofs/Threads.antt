@@ -10,27 +10,20 @@ use lib.ListN.{get_or, set, length}
 use Rattle.words.specs.Layout as at
 use Rattle.answers.specs.declared.Answer.TheVariants as answer
 use Rattle.answers.specs.Outcome.{outcome, unless}
-use Rattle.chains.specs.Ready.{placed_last}
-use Rattle.threads.specs.declared.Thread as stored
 use Rattle.threads.specs.declared.Wait as stored-wait
 use Rattle.threads.specs.Thread.{put_thread, put_wait, no_wait}
 use Rattle.threading.specs.Thread as words
 use Rattle.opening.specs.Open as opening
-use Rattle.model.specs.Lists.{Mem}
-use Rattle.model.specs.State.{State, Limits, Thread}
-use Rattle.model.specs.Threads.{thread_at, count, with_new, new_thread}
+use Rattle.model.specs.State.{State, Limits}
+use Rattle.model.specs.Threads.{count, with_new, new_thread}
 use Rattle.model.specs.Valid.{Valid}
 use Rattle.model.specs.Refusal.{create_refusal, not_priority}
 use Rattle.model.specs.Step.{with_dispatcher}
-use Rattle.model.proofs.ThreadLaws.{append-length}
 use Rattle.agreement_chains.specs.Chains.{Same}
-use Rattle.agreement_chains.specs.Ready.{Room, ReadyPlace}
 use Rattle.agreement_chains.proofs.Frames.{set-outside}
-use Rattle.agreement_chains.proofs.Placed.{placed-frame}
-use Rattle.agreement.specs.Agree.{Agree, Agreeing}
-use Rattle.agreement.proofs.Places.{ready-place, ready-cases}
+use Rattle.agreement.specs.Agree.{Agree}
 use Rattle.agreement.proofs.Headers.{threads-few}
-use Rattle.agreement.proofs.Threads.{stored_of, thread-writes}
+use Rattle.agreement.proofs.Threads.{stored_of}
 use Rattle.agreement.proofs.Waits.{wait-writes}
 use Rattle.agreement.proofs.Opened.{Accepted, accepted}
 use Rattle.agreement_threads.proofs.New.{no-wait-form, sim-new}

@@ -40,7 +40,7 @@ use Rattle.dpc_work.specs.declared.WorkAnswer.TheVariants as work
 use Rattle.form.specs.Form.{in_form}
 use Rattle.call_answers.specs.Told.{told, told_with, told_work}
 use Rattle.calls.specs.Guard.{guarded, guarded_dispatch, guarded_start, guarded_image, image_refused}
-use Rattle.calls.specs.Images.{Imaged, imaged, timer_imaged, dpc_imaged}
+use Rattle.calls.specs.Images.{imaged, timer_imaged, dpc_imaged}
 use Rattle.calls.specs.Called.{called}
 use Rattle.calls.specs.Run.{answered, left, image_told}
 use Rattle.model.specs.Reads.{blank}

@@ -4,18 +4,16 @@ use mathlib.Core.List.{List, [], ◌∷◌}
 use mathlib.Core.Path.{◌≡◌, refl, sym, ap, ◌∙◌, subst}
 use mathlib.Core.Logic.{inl, inr}
 use lib.ListN.{length}
-use Rattle.model.specs.Lists.{Mem}
 use Rattle.model.specs.State.{State}
 use Rattle.model.specs.Answer.{Answer}
 use Rattle.model.specs.Call.{Call}
 use Rattle.model.specs.Step.{step, answers, after}
 use Rattle.model.specs.Valid.{Valid}
-use Rattle.model.specs.Fits.{Fits, Numbers}
+use Rattle.model.specs.Fits.{Numbers}
 use Rattle.model.proofs.StepLaws.{valid-step}
 use Rattle.model.proofs.FitsLaws.{numbers-step}
-use Rattle.calls.specs.Run.{answered, left, Lent}
+use Rattle.calls.specs.Run.{left, Lent}
 use Rattle.agreement.specs.Agree.{Agree}
-use Rattle.agreement.specs.Matches.{Matches}
 use Rattle.agreement_lengths.proofs.Calls.{keeps-length}
 use Rattle.agreement_calls.proofs.Calls.{matches}
 use Rattle.theorem.specs.History.{answers_on, words_after, Proper}
