@@ -1,6 +1,6 @@
 /*
- * The driver bench for C: every function of the library that `bindings/library` writes
- * (target/staticlib/libdriver_bench.a).
+ * The driver bench for C: every function of the library that `rt staticlib exports` writes
+ * (target/staticlib/libexports.a).
  *
  * A scheduler and a clock are words that the caller lends. Each slice is a pointer and a length; slices of one call must be
  * apart, and a pointer may be anything where its length is 0. Words lent as const are only read.
@@ -236,73 +236,6 @@ uint64_t scheduler_dpc_counters(const uint64_t *words, size_t length, uint64_t *
 uint64_t scheduler_dpc_initializations(const uint64_t *words, size_t length, uint64_t *out, size_t out_length);
 /* BENCH_COUNT: how many bytes the image has, which begin `bytes`. */
 uint64_t scheduler_dpc_image(const uint64_t *words, size_t length, uint64_t address, uint8_t *bytes, size_t bytes_length, uint64_t *out, size_t out_length);
-
-/* ---- The same calls without the check of the words ---- */
-
-/*
- * For whoever keeps the words private: from an accepted scheduler_open on they are changed by these calls and the
- * scheduler_ ones alone. Then unchecked_X answers and leaves what scheduler_X does, and 27 is answered only for an `out`,
- * a `waiting` or `bytes` that is too short. It costs less: scheduler_X first reads every record, to see that the words are
- * in form. On other words these calls too end and do nothing undefined, but what they answer says nothing.
- */
-uint64_t unchecked_current(const uint64_t *words, size_t length, uint64_t *out, size_t out_length);
-uint64_t unchecked_create_thread(uint64_t *words, size_t length, uint64_t priority, uint64_t *out, size_t out_length);
-uint64_t unchecked_priority(uint64_t *words, size_t length, uint64_t id, uint64_t priority, uint64_t *out, size_t out_length);
-uint64_t unchecked_yield_current(uint64_t *words, size_t length, uint64_t *out, size_t out_length);
-uint64_t unchecked_terminate(uint64_t *words, size_t length, uint32_t status, uint64_t *out, size_t out_length);
-uint64_t unchecked_thread(const uint64_t *words, size_t length, uint64_t id, uint64_t *out, size_t out_length);
-uint64_t unchecked_threads(const uint64_t *words, size_t length, uint64_t position, uint64_t *out, size_t out_length);
-uint64_t unchecked_waited_object(const uint64_t *words, size_t length, uint64_t id, uint64_t position, uint64_t *out, size_t out_length);
-uint64_t unchecked_initialize_mutex(uint64_t *words, size_t length, uint64_t key, uint64_t *out, size_t out_length);
-uint64_t unchecked_adopt_mutex(uint64_t *words, size_t length, uint64_t key, uint64_t owned, uint64_t owner, uint64_t *out, size_t out_length);
-uint64_t unchecked_mutex_owner(const uint64_t *words, size_t length, uint64_t key, uint64_t *out, size_t out_length);
-uint64_t unchecked_mutex_waiters(const uint64_t *words, size_t length, uint64_t key, uint64_t *out, size_t out_length);
-uint64_t unchecked_release_mutex(uint64_t *words, size_t length, uint64_t key, uint64_t *out, size_t out_length);
-uint64_t unchecked_initialize_event(uint64_t *words, size_t length, uint64_t key, uint64_t manual, uint64_t signaled, uint64_t *out, size_t out_length);
-uint64_t unchecked_set_event(uint64_t *words, size_t length, uint64_t key, uint64_t *out, size_t out_length);
-uint64_t unchecked_reset_event(uint64_t *words, size_t length, uint64_t key, uint64_t *out, size_t out_length);
-uint64_t unchecked_event_state(const uint64_t *words, size_t length, uint64_t key, uint64_t *out, size_t out_length);
-uint64_t unchecked_event_states(const uint64_t *words, size_t length, uint64_t position, uint64_t *out, size_t out_length);
-uint64_t unchecked_require_event_release(const uint64_t *words, size_t length, uint64_t base, uint64_t size, uint64_t layout, uint64_t *out, size_t out_length);
-uint64_t unchecked_retire_event_backing(uint64_t *words, size_t length, uint64_t base, uint64_t size, uint64_t layout, uint64_t *out, size_t out_length);
-uint64_t unchecked_wait(uint64_t *words, size_t length, const uint64_t *list, size_t list_length, uint64_t all, uint64_t timed, uint64_t deadline, uint8_t irql, uint64_t *out, size_t out_length);
-uint64_t unchecked_delay_until(uint64_t *words, size_t length, uint64_t deadline, uint8_t irql, uint64_t *out, size_t out_length);
-uint64_t unchecked_advance_to(uint64_t *words, size_t length, uint64_t time, uint64_t *out, size_t out_length);
-uint64_t unchecked_dispatch(uint64_t *words, size_t length, uint64_t *waiting, size_t waiting_length, uint64_t *out, size_t out_length);
-uint64_t unchecked_initialize_timer(uint64_t *words, size_t length, uint64_t address, uint64_t architecture, uint64_t backing, uint64_t base, uint64_t size, uint64_t mapped, uint64_t manual, uint64_t *out, size_t out_length);
-uint64_t unchecked_set_timer(uint64_t *words, size_t length, uint64_t address, uint64_t due, uint64_t absolute, int32_t period, uint64_t dpc, uint64_t *out, size_t out_length);
-uint64_t unchecked_set_timer_signed(uint64_t *words, size_t length, uint64_t address, int64_t due, int32_t period, uint64_t dpc, uint64_t *out, size_t out_length);
-uint64_t unchecked_cancel_timer(uint64_t *words, size_t length, uint64_t address, uint64_t *out, size_t out_length);
-uint64_t unchecked_require_timer_release(const uint64_t *words, size_t length, uint64_t address, uint64_t size, uint64_t *out, size_t out_length);
-uint64_t unchecked_retire_timer_backing(uint64_t *words, size_t length, uint64_t address, uint64_t size, uint64_t *out, size_t out_length);
-uint64_t unchecked_timer(const uint64_t *words, size_t length, uint64_t address, uint64_t *out, size_t out_length);
-uint64_t unchecked_timers(const uint64_t *words, size_t length, uint64_t position, uint64_t *out, size_t out_length);
-uint64_t unchecked_pending_timer_dpc(const uint64_t *words, size_t length, uint64_t *out, size_t out_length);
-uint64_t unchecked_timer_initializations(const uint64_t *words, size_t length, uint64_t *out, size_t out_length);
-uint64_t unchecked_timer_read_overlap(const uint64_t *words, size_t length, uint64_t address, uint64_t size, uint64_t *out, size_t out_length);
-uint64_t unchecked_timer_metadata_overlap(const uint64_t *words, size_t length, uint64_t address, uint64_t size, uint64_t *out, size_t out_length);
-uint64_t unchecked_timer_image(const uint64_t *words, size_t length, uint64_t address, uint8_t *bytes, size_t bytes_length, uint64_t *out, size_t out_length);
-uint64_t unchecked_configure_dpc_dispatch(uint64_t *words, size_t length, uint64_t first, uint64_t second, uint64_t *out, size_t out_length);
-uint64_t unchecked_initialize_dpc(uint64_t *words, size_t length, uint64_t address, uint64_t architecture, uint64_t backing, uint64_t base, uint64_t size, uint64_t mapped, uint64_t routine, uint64_t context, uint64_t *out, size_t out_length);
-uint64_t unchecked_insert_queue_dpc(uint64_t *words, size_t length, uint64_t address, uint64_t first, uint64_t second, uint64_t *out, size_t out_length);
-uint64_t unchecked_remove_queue_dpc(uint64_t *words, size_t length, uint64_t address, uint64_t *out, size_t out_length);
-uint64_t unchecked_start_dpc(uint64_t *words, size_t length, uint64_t address, uint64_t *out, size_t out_length);
-uint64_t unchecked_returned_dpc(uint64_t *words, size_t length, uint64_t address, uint64_t sequence, uint64_t *out, size_t out_length);
-uint64_t unchecked_restored_dpc(uint64_t *words, size_t length, uint64_t address, uint64_t sequence, uint64_t *out, size_t out_length);
-uint64_t unchecked_dpc(const uint64_t *words, size_t length, uint64_t address, uint64_t *out, size_t out_length);
-uint64_t unchecked_dpcs(const uint64_t *words, size_t length, uint64_t position, uint64_t *out, size_t out_length);
-uint64_t unchecked_active_dpc(const uint64_t *words, size_t length, uint64_t *out, size_t out_length);
-uint64_t unchecked_next_dpc(const uint64_t *words, size_t length, uint64_t *out, size_t out_length);
-uint64_t unchecked_queued_dpcs(const uint64_t *words, size_t length, uint64_t position, uint64_t *out, size_t out_length);
-uint64_t unchecked_dpc_policy(const uint64_t *words, size_t length, uint64_t *out, size_t out_length);
-uint64_t unchecked_dpc_counters(const uint64_t *words, size_t length, uint64_t *out, size_t out_length);
-uint64_t unchecked_dpc_initializations(const uint64_t *words, size_t length, uint64_t *out, size_t out_length);
-uint64_t unchecked_dpc_image(const uint64_t *words, size_t length, uint64_t address, uint8_t *bytes, size_t bytes_length, uint64_t *out, size_t out_length);
-
-/* What stands at place `entry` of the table of all objects, from 0 on, in the order of keys: BENCH_EVENT or BENCH_TIMER, or
-   BENCH_NONE for an object of another kind; past the last, 2. So a list of events or timers is read in one pass. */
-uint64_t unchecked_event_entry(const uint64_t *words, size_t length, uint64_t entry, uint64_t *out, size_t out_length);
-uint64_t unchecked_timer_entry(const uint64_t *words, size_t length, uint64_t entry, uint64_t *out, size_t out_length);
 
 #ifdef __cplusplus
 }

@@ -5,16 +5,15 @@ use std::fmt;
 /// The word for the UTC offset is the offset plus this.
 const BIAS: i64 = 840;
 const WORDS: usize = 7;
-/// The refusal of words out of form: a public field was set out of its range.
-const FORM: u64 = 27;
 
 type Words = [u64; WORDS];
 
 #[derive(Clone, Copy, Debug, PartialEq, Eq)]
 pub enum ClockError {
-    /// Also of a clock with a public field out of its range.
     InvalidConfiguration,
     Overflow,
+    /// A public field was set out of its range.
+    OutOfForm,
 }
 
 impl ClockError {
@@ -23,23 +22,27 @@ impl ClockError {
         match self {
             Self::InvalidConfiguration => 25,
             Self::Overflow => 26,
+            Self::OutOfForm => 27,
         }
     }
 
     fn of(number: u64) -> Self {
         match number {
+            25 => Self::InvalidConfiguration,
             26 => Self::Overflow,
-            _ => Self::InvalidConfiguration,
+            _ => Self::OutOfForm,
         }
     }
 }
 
 impl fmt::Display for ClockError {
     fn fmt(&self, f: &mut fmt::Formatter<'_>) -> fmt::Result {
-        f.write_str(match self {
+        let message = match self {
             Self::InvalidConfiguration => "Invalid guest CPU frequency or UTC offset",
             Self::Overflow => "Guest clock exceeds its representable range",
-        })
+            Self::OutOfForm => "Guest clock out of form",
+        };
+        write!(f, "{message} ({})", self.number())
     }
 }
 
@@ -159,7 +162,7 @@ impl GuestClock {
     fn change(&mut self, call: impl FnOnce(*mut u64, usize) -> u64) -> Result<(), ClockError> {
         let mut words = self.words();
         let number = call(words.as_mut_ptr(), WORDS);
-        if number != FORM {
+        if number != ClockError::OutOfForm.number() {
             *self = Self::of(words);
         }
         match number {

@@ -1,19 +1,13 @@
 //! Threads, waits, mutexes, events and dispatch.
 mod dpc;
 mod lent;
-mod messages;
-mod seen;
 mod timers;
 
 use crate::ffi::*;
 pub use dpc::{DPC_WORK_LIMIT, DpcCounters, DpcOrigin, DpcPhase, DpcPolicy, DpcWork};
-use lent::{MOST_THREADS, Out, RECORD_WORDS, Record, Words, done, flag, some};
-use messages::told;
-use seen::{Entry, Seen};
+use lent::{Out, Record, Result, flag, some};
 use std::fmt;
 pub use timers::{Dpc, TIMER_LIFETIME_LIMIT, Timer, TimerBacking};
-
-type Result<T> = std::result::Result<T, SchedulerError>;
 
 pub type ThreadId = u64;
 
@@ -74,20 +68,50 @@ pub struct Thread {
     pub wait_result: Option<WaitResult>,
 }
 
-/// A refusal, by the Rust bench's message.
+/// A refusal, by its number in document 01's table.
 #[derive(Clone, Copy, Debug, PartialEq, Eq)]
-pub struct SchedulerError(pub &'static str);
+pub struct SchedulerError(pub u64);
 
 impl SchedulerError {
-    /// The number in document 01's table; 0 for a message that is none of a call's.
     pub fn number(self) -> u64 {
-        messages::number(self.0)
+        self.0
+    }
+
+    pub fn message(self) -> &'static str {
+        match self.0 {
+            1 => "the priority is outside 1 to 31",
+            2 => "there is no such thread, object or DPC",
+            3 => "no thread runs",
+            4 => "the table is full, or the key is 0",
+            5 => "the key is one of another kind",
+            6 => "it is owned, inserted or waited on",
+            7 => "the list has none, over 64, or one twice",
+            8 => "the mutex is the caller's own",
+            9 => "the IRQL is over 1",
+            10 => "the owner is another, or none that lives, or would exit",
+            11 => "the thread has exited",
+            12 => "time goes back",
+            13 => "a due passes 2^64 - 1",
+            14 => "65,536 initializations or acceptances have been",
+            15 => "a timer or a DPC cannot stand there",
+            16 => "the bytes are another's too",
+            17 => "the period is negative",
+            18 => "an inserted timer has the DPC",
+            19 => "the DPC is queued, runs or returns",
+            20 => "the policy is missing, or cannot be chosen",
+            21 => "the queued work has another origin",
+            22 => "it is not the head of the queue, or has another phase or sequence",
+            23 => "the memory cannot be given back",
+            24 => "a count is at 2^64 - 1",
+            27 => "the limits are bad, or the words are out of form",
+            _ => "no refusal",
+        }
     }
 }
 
 impl fmt::Display for SchedulerError {
     fn fmt(&self, f: &mut fmt::Formatter<'_>) -> fmt::Result {
-        write!(f, "Kernel scheduler: {}", self.0)
+        write!(f, "Kernel scheduler: {} ({})", self.message(), self.0)
     }
 }
 
@@ -126,12 +150,11 @@ impl Limits {
     };
 }
 
+/// The words are those that the proved calls are lent; nothing else touches them.
 #[derive(Clone)]
 pub struct Scheduler {
-    words: Words,
-    /// How many threads there may be.
+    words: Vec<u64>,
     threads: usize,
-    seen: Seen,
 }
 
 impl Scheduler {
@@ -146,73 +169,63 @@ impl Scheduler {
             dpcs: d,
         } = limits;
         let mut scheduler = Self {
-            words: Words::new(0),
+            words: Vec::new(),
             threads: t as usize,
-            seen: Seen::default(),
         };
         // SAFETY: `out` has `m` words.
-        let needed: lent::Answer<Out> =
+        let needed: Result<Out> =
             scheduler.read(|_, _, o, m| unsafe { scheduler_words_needed(t, k, d, o, m) });
         // Bad limits get no words: `open` refuses them, but a bad priority first.
-        scheduler.words = Words::new(needed.map_or(0, |out| out[1] as usize));
+        scheduler.words = vec![0; needed.map_or(0, |out| out[1] as usize)];
         let priority = root_priority.into();
-        // SAFETY: as in every call below, `w` has `n` words and `o` has `m`, apart from each other. The words are changed by
-        // these calls alone, so that none needs to see their form again.
+        // SAFETY: as in every call below, `w` has `n` words and `o` has `m`, apart from each other.
         let _: Out = scheduler
-            .change(|w, n, o, m| unsafe { scheduler_open(w, n, priority, t, k, d, o, m) })
-            .map_err(told(messages::OPEN))?;
+            .change(|w, n, o, m| unsafe { scheduler_open(w, n, priority, t, k, d, o, m) })?;
         Ok(scheduler)
     }
 
     pub fn current(&self) -> Option<ThreadId> {
-        some(self.always(|w, n, o, m| unsafe { unchecked_current(w, n, o, m) }))
+        some(self.always(|w, n, o, m| unsafe { scheduler_current(w, n, o, m) }))
     }
 
     pub fn event_states(&self) -> impl Iterator<Item = (u64, bool, bool)> + '_ {
-        let entries = (0..).map_while(|entry| {
-            let out = self.read(|w, n, o, m| unsafe { unchecked_event_entry(w, n, entry, o, m) });
-            out.ok().map(event)
-        });
-        entries.flatten()
+        (0..).map_while(|position| {
+            let out: Out =
+                self.always(|w, n, o, m| unsafe { scheduler_event_states(w, n, position, o, m) });
+            event(out)
+        })
     }
 
     pub fn event_state(&self, key: u64) -> Result<(bool, bool)> {
-        let out = self.always(|w, n, o, m| unsafe { unchecked_event_state(w, n, key, o, m) });
-        let (_, manual, signaled) = event(out)
-            .ok_or(lent::UNKNOWN)
-            .map_err(told(messages::EVENT))?;
-        Ok((manual, signaled))
+        let out: Out = self.read(|w, n, o, m| unsafe { scheduler_event_state(w, n, key, o, m) })?;
+        event(out)
+            .map(|(_, manual, signaled)| (manual, signaled))
+            .ok_or(SchedulerError(lent::UNKNOWN))
     }
 
     pub fn require_event_release(&self, base: u64, size: u64, layout: u64) -> Result<()> {
-        self.read(|w, n, o, m| unsafe {
-            unchecked_require_event_release(w, n, base, size, layout, o, m)
-        })
-        .map(done)
-        .map_err(|_| self.event_refusal(base, size, layout))
+        let _: Out = self.read(|w, n, o, m| unsafe {
+            scheduler_require_event_release(w, n, base, size, layout, o, m)
+        })?;
+        Ok(())
     }
 
     pub fn retire_event_backing(&mut self, base: u64, size: u64, layout: u64) -> Result<()> {
-        self.change(|w, n, o, m| unsafe {
-            unchecked_retire_event_backing(w, n, base, size, layout, o, m)
-        })
-        .map(done)
-        .map_err(|_| self.event_refusal(base, size, layout))
+        let _: Out = self.change(|w, n, o, m| unsafe {
+            scheduler_retire_event_backing(w, n, base, size, layout, o, m)
+        })?;
+        Ok(())
     }
 
-    pub fn threads(&self) -> impl Iterator<Item = &Thread> {
-        self.seen.threads.iter(|position| {
-            let out = self.always(|w, n, o, m| unsafe { unchecked_threads(w, n, position, o, m) });
-            self.thread_of(out).map_or(Entry::End, Entry::Item)
+    pub fn threads(&self) -> impl Iterator<Item = Thread> + '_ {
+        (0..).map_while(|position| {
+            let out = self.always(|w, n, o, m| unsafe { scheduler_threads(w, n, position, o, m) });
+            self.thread_of(out)
         })
     }
 
-    pub fn thread(&self, id: ThreadId) -> Option<&Thread> {
-        let read = || {
-            let out = self.always(|w, n, o, m| unsafe { unchecked_thread(w, n, id, o, m) });
-            Some(self.seen.thread.keep(id, self.thread_of(out)?))
-        };
-        self.seen.thread.get(id).or_else(read)
+    pub fn thread(&self, id: ThreadId) -> Option<Thread> {
+        self.thread_of(self.always(|w, n, o, m| unsafe { scheduler_thread(w, n, id, o, m) }))
     }
 
     fn thread_of(&self, out: Record) -> Option<Thread> {
@@ -237,7 +250,9 @@ impl Scheduler {
                 1 => ThreadState::Running,
                 2 => ThreadState::Ready,
                 3 => ThreadState::Waiting {
-                    objects: self.waited_objects(id, count),
+                    objects: (0..count)
+                        .map(|position| self.waited_object(id, position))
+                        .collect(),
                     all: all != 0,
                     deadline: (timed != 0).then_some(deadline),
                     sequence,
@@ -254,63 +269,53 @@ impl Scheduler {
         })
     }
 
-    fn waited_objects(&self, id: ThreadId, count: u64) -> Vec<Object> {
-        let mut out: Record = [0; RECORD_WORDS];
-        let at = |position| {
-            self.read_to(&mut out, |w, n, o, m| unsafe {
-                unchecked_waited_object(w, n, id, position, o, m)
-            })
-            .expect("no refusal");
-            Object::of(out[1], out[2])
-        };
-        (0..count).map(at).collect()
+    fn waited_object(&self, id: ThreadId, position: u64) -> Object {
+        let [_, kind, key, ..]: Record =
+            self.always(|w, n, o, m| unsafe { scheduler_waited_object(w, n, id, position, o, m) });
+        Object::of(kind, key)
     }
 
     pub fn mutex_owner(&self, key: u64) -> Result<Option<ThreadId>> {
-        self.read(|w, n, o, m| unsafe { unchecked_mutex_owner(w, n, key, o, m) })
+        self.read(|w, n, o, m| unsafe { scheduler_mutex_owner(w, n, key, o, m) })
             .map(some)
-            .map_err(told(messages::MUTEX))
     }
 
     pub fn adopt_mutex(&mut self, key: u64, owner: Option<ThreadId>) -> Result<()> {
-        let (owned, id) = (owner.is_some().into(), owner.unwrap_or(0));
-        self.change(|w, n, o, m| unsafe { unchecked_adopt_mutex(w, n, key, owned, id, o, m) })
-            .map(done)
-            .map_err(|number| self.adopt_refusal(number, owner))
+        let (owned, owner) = (owner.is_some().into(), owner.unwrap_or(0));
+        let _: Out = self
+            .change(|w, n, o, m| unsafe { scheduler_adopt_mutex(w, n, key, owned, owner, o, m) })?;
+        Ok(())
     }
 
     pub fn mutex_waiters(&self, key: u64) -> usize {
         let [_, count, ..]: Out =
-            self.always(|w, n, o, m| unsafe { unchecked_mutex_waiters(w, n, key, o, m) });
+            self.always(|w, n, o, m| unsafe { scheduler_mutex_waiters(w, n, key, o, m) });
         count as usize
     }
 
     pub fn create_thread(&mut self, priority: u8) -> Result<ThreadId> {
         let [_, id, ..]: Out = self
-            .change(|w, n, o, m| unsafe { unchecked_create_thread(w, n, priority.into(), o, m) })
-            .map_err(told(messages::CREATE_THREAD))?;
+            .change(|w, n, o, m| unsafe { scheduler_create_thread(w, n, priority.into(), o, m) })?;
         Ok(id)
     }
 
     pub fn priority(&mut self, id: ThreadId, priority: u8) -> Result<()> {
-        self.change(|w, n, o, m| unsafe { unchecked_priority(w, n, id, priority.into(), o, m) })
-            .map(done)
-            .map_err(told(messages::SET_PRIORITY))
+        let _: Out = self
+            .change(|w, n, o, m| unsafe { scheduler_priority(w, n, id, priority.into(), o, m) })?;
+        Ok(())
     }
 
     pub fn initialize_mutex(&mut self, key: u64) -> Result<()> {
-        self.change(|w, n, o, m| unsafe { unchecked_initialize_mutex(w, n, key, o, m) })
-            .map(done)
-            .map_err(told(messages::INITIALIZE_MUTEX))
+        let _: Out =
+            self.change(|w, n, o, m| unsafe { scheduler_initialize_mutex(w, n, key, o, m) })?;
+        Ok(())
     }
 
     pub fn initialize_event(&mut self, key: u64, manual_reset: bool, signaled: bool) -> Result<()> {
-        let (manual, signaled) = (manual_reset.into(), signaled.into());
-        self.change(|w, n, o, m| unsafe {
-            unchecked_initialize_event(w, n, key, manual, signaled, o, m)
-        })
-        .map(done)
-        .map_err(told(messages::INITIALIZE_EVENT))
+        let _: Out = self.change(|w, n, o, m| unsafe {
+            scheduler_initialize_event(w, n, key, manual_reset.into(), signaled.into(), o, m)
+        })?;
+        Ok(())
     }
 
     pub fn wait(
@@ -325,65 +330,62 @@ impl Scheduler {
         let (l, k) = (list.as_ptr(), list.len());
         // SAFETY: `l` has `k` words too, apart from the others.
         self.change(|w, n, o, m| unsafe {
-            unchecked_wait(w, n, l, k, all.into(), timed, deadline, irql, o, m)
+            scheduler_wait(w, n, l, k, all.into(), timed, deadline, irql, o, m)
         })
         .map(waited)
-        .map_err(told(messages::WAIT))
     }
 
     pub fn delay_until(&mut self, deadline: u64, irql: u8) -> Result<WaitOutcome> {
-        self.change(|w, n, o, m| unsafe { unchecked_delay_until(w, n, deadline, irql, o, m) })
+        self.change(|w, n, o, m| unsafe { scheduler_delay_until(w, n, deadline, irql, o, m) })
             .map(waited)
-            .map_err(told(messages::DELAY))
     }
 
     pub fn advance_to(&mut self, now: u64) -> Result<()> {
-        self.change(|w, n, o, m| unsafe { unchecked_advance_to(w, n, now, o, m) })
-            .map(done)
-            .map_err(told(messages::ADVANCE))
+        let _: Out = self.change(|w, n, o, m| unsafe { scheduler_advance_to(w, n, now, o, m) })?;
+        Ok(())
     }
 
     pub fn release_mutex(&mut self, key: u64) -> Result<()> {
-        self.change(|w, n, o, m| unsafe { unchecked_release_mutex(w, n, key, o, m) })
-            .map(done)
-            .map_err(told(messages::RELEASE_MUTEX))
+        let _: Out =
+            self.change(|w, n, o, m| unsafe { scheduler_release_mutex(w, n, key, o, m) })?;
+        Ok(())
     }
 
     pub fn set_event(&mut self, key: u64) -> Result<bool> {
-        self.change(|w, n, o, m| unsafe { unchecked_set_event(w, n, key, o, m) })
+        self.change(|w, n, o, m| unsafe { scheduler_set_event(w, n, key, o, m) })
             .map(flag)
-            .map_err(told(messages::EVENT))
     }
 
     pub fn reset_event(&mut self, key: u64) -> Result<bool> {
-        self.change(|w, n, o, m| unsafe { unchecked_reset_event(w, n, key, o, m) })
+        self.change(|w, n, o, m| unsafe { scheduler_reset_event(w, n, key, o, m) })
             .map(flag)
-            .map_err(told(messages::EVENT))
     }
 
     pub fn yield_current(&mut self) -> Result<()> {
-        self.change(|w, n, o, m| unsafe { unchecked_yield_current(w, n, o, m) })
-            .map(done)
-            .map_err(told(messages::YIELD))
+        let _: Out = self.change(|w, n, o, m| unsafe { scheduler_yield_current(w, n, o, m) })?;
+        Ok(())
     }
 
     pub fn terminate(&mut self, status: u32) -> Result<()> {
-        self.change(|w, n, o, m| unsafe { unchecked_terminate(w, n, status, o, m) })
-            .map(done)
-            .map_err(told(messages::TERMINATE))
+        let _: Out =
+            self.change(|w, n, o, m| unsafe { scheduler_terminate(w, n, status, o, m) })?;
+        Ok(())
     }
 
     pub fn dispatch(&mut self) -> Dispatch {
-        let mut waiting = [0; MOST_THREADS];
-        let (l, k) = (waiting.as_mut_ptr(), self.threads);
-        // SAFETY: `l` has `k` words too, which are at most 256, apart from the others.
+        let mut waiting = vec![0; self.threads];
+        let (l, k) = (waiting.as_mut_ptr(), waiting.len());
+        // SAFETY: `l` has `k` words too, apart from the others.
         let [tag, value, ..]: Out = self
-            .change(|w, n, o, m| unsafe { unchecked_dispatch(w, n, l, k, o, m) })
-            .expect("no refusal");
+            .change(|w, n, o, m| unsafe { scheduler_dispatch(w, n, l, k, o, m) })
+            .expect("words in form");
         match tag {
             lent::RUN => Dispatch::Run(value),
             lent::ADVANCE_TO => Dispatch::AdvanceTo(value),
-            lent::DEADLOCKED => Dispatch::Deadlocked(waiting[..value as usize].to_vec()),
+            lent::DEADLOCKED => {
+                waiting.truncate(value as usize);
+                Dispatch::Deadlocked(waiting)
+            }
             lent::FINISHED => Dispatch::Finished,
             _ => unreachable!("no answer of a dispatch"),
         }

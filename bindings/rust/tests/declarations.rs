@@ -68,12 +68,9 @@ fn in_header(argument: &str) -> Vec<String> {
 fn declarations_agree() {
     let root = Path::new(env!("CARGO_MANIFEST_DIR")).join("../..");
     let mut library = Functions::new();
-    for name in ["exports", "unchecked_calls", "unchecked_reads"] {
-        let folder = root.join("crates").join(name).join("src");
-        for file in fs::read_dir(folder).unwrap_or_else(|error| panic!("{name}: {error}")) {
-            let source = text(&file.unwrap().path());
-            library.extend(functions(&source, "pub extern \"C\" fn ", in_library));
-        }
+    for file in fs::read_dir(root.join("crates/exports/src")).unwrap() {
+        let source = text(&file.unwrap().path());
+        library.extend(functions(&source, "pub extern \"C\" fn ", in_library));
     }
     let own = text(&root.join("bindings/rust/src/ffi.rs"));
     let header = text(&root.join("include/driver_bench.h"));
@@ -81,30 +78,16 @@ fn declarations_agree() {
         .lines()
         .filter(|line| line.starts_with("uint64_t "))
         .collect();
+    assert!(library.len() > 60, "{} functions", library.len());
     assert_eq!(functions(&own, "pub fn ", in_crate), library);
-    let mut parts = 0;
-    for prefix in ["clock_", "scheduler_", "unchecked_"] {
-        let part = part(&library, prefix);
-        parts += part.len();
-        let mark = format!("uint64_t {prefix}");
-        assert_eq!(functions(&header, &mark, in_header), part);
-    }
-    assert_eq!(parts, library.len());
-    unchecked_are_checked(&library);
-}
-
-/// Beside each call on a scheduler's words there is the same one unchecked; only the reads by entry have none to match.
-fn unchecked_are_checked(library: &Functions) {
-    let mut checked = part(library, "scheduler_");
-    let mut unchecked = part(library, "unchecked_");
-    for opening in ["open", "words_needed"] {
-        assert!(checked.remove(opening).is_some(), "{opening}");
-    }
-    for (entry, position) in [("event_entry", "event_states"), ("timer_entry", "timers")] {
-        assert_eq!(unchecked.remove(entry).as_ref(), checked.get(position));
-    }
-    assert_eq!(unchecked, checked);
-    assert!(checked.len() > 50, "{} functions", checked.len());
+    assert_eq!(
+        functions(&header, "uint64_t scheduler_", in_header),
+        part(&library, "scheduler_")
+    );
+    assert_eq!(
+        functions(&header, "uint64_t clock_", in_header),
+        part(&library, "clock_")
+    );
 }
 
 /// The functions with the prefix, without it.

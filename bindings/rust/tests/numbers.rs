@@ -76,12 +76,10 @@ fn refusals() {
     assert_eq!(number(bench.initialize_dpc(busy(0x1080))), 4);
     assert_eq!(number(bench.initialize_dpc(busy(0x1040))), 19);
     let error = bench.wait(&[], false, None, 0).unwrap_err();
-    assert_eq!(error.number(), 7);
     assert_eq!(
         error.to_string(),
-        "Kernel scheduler: invalid or duplicate wait objects"
+        "Kernel scheduler: the list has none, over 64, or one twice (7)"
     );
-    assert_eq!(SchedulerError("none of the bench").number(), 0);
 }
 
 #[test]
@@ -133,7 +131,7 @@ fn clock_errors() {
     );
     assert_eq!(
         error.to_string(),
-        "Invalid guest CPU frequency or UTC offset"
+        "Invalid guest CPU frequency or UTC offset (25)"
     );
     let mut clock = GuestClock::new(0, 1_844_674_407_370_955, 0, 1).unwrap();
     clock.advance_100ns(1615).unwrap();
@@ -141,6 +139,6 @@ fn clock_errors() {
     clock.advance_100ns(1).unwrap();
     assert_eq!(clock.checked_qpc().unwrap_err().number(), 26);
     clock.utc_offset_minutes = i32::MIN;
-    assert_eq!(clock.observe(), Err(ClockError::InvalidConfiguration));
+    assert_eq!(clock.observe().unwrap_err().number(), 27);
     assert_eq!(clock.utc_offset_minutes, i32::MIN);
 }

@@ -1,11 +1,12 @@
 //! The same random calls on the proved scheduler and on the original, in calls a second.
 mod advance;
 mod kinds;
+mod unguarded;
 
 use super::answer::Answer;
 use super::draw::Draw;
 use super::original::{objects, original};
-use super::proved::{Side, proved, unguarded};
+use super::proved::{Side, proved};
 use super::reference::{Lengths, Reference};
 use super::room::Room;
 use super::words;
@@ -15,6 +16,7 @@ use crate::random::Random;
 use emumee::scheduler::{Object, Scheduler, SchedulerError};
 use std::hint::black_box;
 use std::time::{Duration, Instant};
+use unguarded::unguarded;
 
 /// The proved side's functions: as exported, and without the check of the words' form.
 const SIDES: [(&str, Side); 2] = [("guarded", proved), ("unguarded", unguarded)];

@@ -1,12 +1,7 @@
 //! The DPC queue.
-use super::lent::{self, Record, done, flag, some};
-use super::messages::{self, told};
-use super::{Dpc, Result, Scheduler};
+use super::lent::{self, Out, Record, Result, flag, some};
+use super::{Dpc, Scheduler};
 use crate::ffi::*;
-use std::iter;
-
-/// As many of the queue are read by position, of which each costs the way from the head.
-const FIRST: u64 = 32;
 
 /// How much work can be accepted, all together.
 pub const DPC_WORK_LIMIT: u64 = 65_536;
@@ -93,8 +88,28 @@ pub struct DpcCounters {
     pub restored: u64,
 }
 
-impl DpcCounters {
-    fn of(out: Record) -> Self {
+impl Scheduler {
+    pub fn configure_dpc_dispatch(&mut self, timer_arguments: [u64; 2]) -> Result<()> {
+        let [first, second] = timer_arguments;
+        let _: Out = self.change(|w, n, o, m| unsafe {
+            scheduler_configure_dpc_dispatch(w, n, first, second, o, m)
+        })?;
+        Ok(())
+    }
+
+    pub fn dpc_policy(&self) -> DpcPolicy {
+        let [tag, first, second, ..]: Record =
+            self.always(|w, n, o, m| unsafe { scheduler_dpc_policy(w, n, o, m) });
+        match tag {
+            lent::NO_POLICY => DpcPolicy::Unselected,
+            _ => DpcPolicy::Cpu0Dispatch {
+                timer_arguments: [first, second],
+            },
+        }
+    }
+
+    pub fn dpc_counters(&self) -> DpcCounters {
+        let out: Record = self.always(|w, n, o, m| unsafe { scheduler_dpc_counters(w, n, o, m) });
         let [
             _,
             accepted,
@@ -105,7 +120,7 @@ impl DpcCounters {
             restored,
             ..,
         ] = out;
-        Self {
+        DpcCounters {
             accepted,
             duplicates,
             removed,
@@ -114,100 +129,52 @@ impl DpcCounters {
             restored,
         }
     }
-}
-
-impl Scheduler {
-    pub fn configure_dpc_dispatch(&mut self, timer_arguments: [u64; 2]) -> Result<()> {
-        let [first, second] = timer_arguments;
-        self.change(|w, n, o, m| unsafe {
-            unchecked_configure_dpc_dispatch(w, n, first, second, o, m)
-        })
-        .map(done)
-        .map_err(|_| self.policy_refusal())
-    }
-
-    pub fn dpc_policy(&self) -> DpcPolicy {
-        let [tag, first, second, ..]: Record =
-            self.always(|w, n, o, m| unsafe { unchecked_dpc_policy(w, n, o, m) });
-        match tag {
-            lent::NO_POLICY => DpcPolicy::Unselected,
-            _ => DpcPolicy::Cpu0Dispatch {
-                timer_arguments: [first, second],
-            },
-        }
-    }
-
-    pub fn dpc_counters(&self) -> &DpcCounters {
-        self.seen.counters.get_or_init(|| {
-            DpcCounters::of(self.always(|w, n, o, m| unsafe { unchecked_dpc_counters(w, n, o, m) }))
-        })
-    }
 
     pub fn queued_dpcs(&self) -> impl Iterator<Item = u64> + '_ {
-        let first = (0..FIRST).map_while(|position| self.queued_at(position));
-        let rest = iter::once_with(|| match self.queued_at(FIRST) {
-            None => Vec::new(),
-            Some(_) => self.by_acceptance().split_off(FIRST as usize),
-        });
-        first.chain(rest.flatten())
+        (0..).map_while(|position| {
+            some(self.always(|w, n, o, m| unsafe { scheduler_queued_dpcs(w, n, position, o, m) }))
+        })
     }
 
-    fn queued_at(&self, position: u64) -> Option<u64> {
-        some(self.always(|w, n, o, m| unsafe { unchecked_queued_dpcs(w, n, position, o, m) }))
-    }
-
-    /// The queue: it is in the order of acceptance.
-    fn by_acceptance(&self) -> Vec<u64> {
-        let queued = self.dpcs().filter_map(|dpc| match &dpc.phase {
-            DpcPhase::Queued(work) => Some((work.sequence, dpc.address)),
-            _ => None,
-        });
-        let mut queued: Vec<(u64, u64)> = queued.collect();
-        queued.sort_unstable();
-        queued.into_iter().map(|(_, address)| address).collect()
-    }
-
-    pub fn active_dpc(&self) -> Option<&Dpc> {
-        self.dpc_seen(self.always(|w, n, o, m| unsafe { unchecked_active_dpc(w, n, o, m) }))
+    pub fn active_dpc(&self) -> Option<Dpc> {
+        Dpc::of(self.always(|w, n, o, m| unsafe { scheduler_active_dpc(w, n, o, m) }))
     }
 
     pub fn insert_queue_dpc(&mut self, address: u64, arguments: [u64; 2]) -> Result<bool> {
         let [first, second] = arguments;
         self.change(|w, n, o, m| unsafe {
-            unchecked_insert_queue_dpc(w, n, address, first, second, o, m)
+            scheduler_insert_queue_dpc(w, n, address, first, second, o, m)
         })
         .map(flag)
-        .map_err(told(messages::INSERT_DPC))
     }
 
     pub fn remove_queue_dpc(&mut self, address: u64) -> Result<bool> {
-        self.change(|w, n, o, m| unsafe { unchecked_remove_queue_dpc(w, n, address, o, m) })
+        self.change(|w, n, o, m| unsafe { scheduler_remove_queue_dpc(w, n, address, o, m) })
             .map(flag)
-            .map_err(told(messages::DPC))
     }
 
-    /// Never refused here: the queue holds what is queued.
-    pub fn next_dpc(&self) -> Result<Option<&Dpc>> {
-        let out = self.always(|w, n, o, m| unsafe { unchecked_next_dpc(w, n, o, m) });
-        Ok(self.dpc_seen(out))
+    pub fn next_dpc(&self) -> Result<Option<Dpc>> {
+        self.read(|w, n, o, m| unsafe { scheduler_next_dpc(w, n, o, m) })
+            .map(Dpc::of)
     }
 
     pub fn start_dpc(&mut self, address: u64) -> Result<DpcWork> {
-        let out: Record = self
-            .change(|w, n, o, m| unsafe { unchecked_start_dpc(w, n, address, o, m) })
-            .map_err(told(messages::START_DPC))?;
+        let out: Record =
+            self.change(|w, n, o, m| unsafe { scheduler_start_dpc(w, n, address, o, m) })?;
         Ok(DpcWork::of(&out[1..]))
     }
 
     pub fn returned_dpc(&mut self, address: u64, sequence: u64) -> Result<()> {
-        self.change(|w, n, o, m| unsafe { unchecked_returned_dpc(w, n, address, sequence, o, m) })
-            .map(done)
-            .map_err(told(messages::RETURNED_DPC))
+        let _: Out = self.change(|w, n, o, m| unsafe {
+            scheduler_returned_dpc(w, n, address, sequence, o, m)
+        })?;
+        Ok(())
     }
 
     pub fn restored_dpc(&mut self, address: u64, sequence: u64) -> Result<()> {
-        self.change(|w, n, o, m| unsafe { unchecked_restored_dpc(w, n, address, sequence, o, m) })
-            .map(done)
-            .map_err(told(messages::RESTORED_DPC))
+        let _: Out = self.change(|w, n, o, m| unsafe {
+            scheduler_restored_dpc(w, n, address, sequence, o, m)
+        })?;
+        Ok(())
     }
 }

@@ -1,9 +1,7 @@
 //! Timers, and DPCs as records.
 use super::dpc::{DpcPhase, DpcWork};
-use super::lent::{self, Answer, IMAGE_BYTES, Out, Record, done, flag};
-use super::messages::{self, told};
-use super::seen::Entry;
-use super::{Limits, Result, Scheduler};
+use super::lent::{self, IMAGE_BYTES, Out, Record, Result, flag};
+use super::{Limits, Scheduler, SchedulerError};
 use crate::ffi::*;
 use crate::pe::Architecture;
 
@@ -64,6 +62,7 @@ pub struct Timer {
     pub absolute: bool,
     pub arm_generation: u64,
     pub initialization: u64,
+    image: Vec<u8>,
 }
 
 impl Timer {
@@ -74,30 +73,12 @@ impl Timer {
         }
     }
 
-    /// The bytes in guest memory, by the fields: of a timer that a scheduler has, those of `Scheduler::timer_image`.
+    /// The bytes in guest memory at the time of the reading.
     pub fn bytes(&self) -> Vec<u8> {
-        let width = self.architecture.width();
-        let mut bytes = vec![0; self.size()];
-        let mut put = |at: usize, field: &[u8]| bytes[at..at + field.len()].copy_from_slice(field);
-        let link = self.address.wrapping_add(8).to_le_bytes();
-        let (due, dpc, period) = match self.architecture {
-            Architecture::X64 => (24, 48, 60),
-            Architecture::X86 => (16, 32, 36),
-        };
-        put(0, &[if self.manual_reset { 8 } else { 9 }]);
-        put(1, &[self.absolute.into()]);
-        put(2, &[(self.size() / 4) as u8]);
-        put(3, &[if self.inserted { 0x40 } else { 0 }]);
-        put(4, &u32::from(self.signaled).to_le_bytes());
-        put(8, &link[..width]);
-        put(8 + width, &link[..width]);
-        put(due, &self.due.to_le_bytes());
-        put(dpc, &self.dpc.to_le_bytes()[..width]);
-        put(period, &self.period_ms.to_le_bytes());
-        bytes
+        self.image.clone()
     }
 
-    fn of(out: Record) -> Option<Self> {
+    fn of(scheduler: &Scheduler, out: Record) -> Option<Self> {
         let [tag, address, architecture, kind, base, size, mapped, ..] = out;
         (tag != lent::NONE).then(|| Self {
             address,
@@ -112,6 +93,7 @@ impl Timer {
             absolute: out[13] != 0,
             arm_generation: out[14],
             initialization: out[15],
+            image: scheduler.timer_image(address).expect("a known timer"),
         })
     }
 }
@@ -189,99 +171,70 @@ impl Dpc {
 }
 
 impl Scheduler {
-    pub fn timers(&self) -> impl Iterator<Item = &Timer> {
-        self.seen.timers.iter(|entry| {
-            let out = self.read(|w, n, o, m| unsafe { unchecked_timer_entry(w, n, entry, o, m) });
-            match out.map(Timer::of) {
-                Err(_) => Entry::End,
-                Ok(None) => Entry::Other,
-                Ok(Some(timer)) => Entry::Item(timer),
-            }
+    pub fn timers(&self) -> impl Iterator<Item = Timer> + '_ {
+        (0..).map_while(|position| {
+            let out = self.always(|w, n, o, m| unsafe { scheduler_timers(w, n, position, o, m) });
+            Timer::of(self, out)
         })
     }
 
-    pub fn dpcs(&self) -> impl Iterator<Item = &Dpc> {
-        self.seen.dpcs.iter(|position| {
-            let out = self.always(|w, n, o, m| unsafe { unchecked_dpcs(w, n, position, o, m) });
-            Dpc::of(out).map_or(Entry::End, Entry::Item)
+    pub fn dpcs(&self) -> impl Iterator<Item = Dpc> + '_ {
+        (0..).map_while(|position| {
+            Dpc::of(self.always(|w, n, o, m| unsafe { scheduler_dpcs(w, n, position, o, m) }))
         })
     }
 
-    pub fn timer(&self, address: u64) -> Result<&Timer> {
-        let read = || {
-            let out = self
-                .read(|w, n, o, m| unsafe { unchecked_timer(w, n, address, o, m) })
-                .map_err(told(messages::TIMER))?;
-            Ok(self.timer_seen(out).expect("a timer"))
-        };
-        self.seen.timer.get(address).map_or_else(read, Ok)
+    pub fn timer(&self, address: u64) -> Result<Timer> {
+        let out = self.read(|w, n, o, m| unsafe { scheduler_timer(w, n, address, o, m) })?;
+        Timer::of(self, out).ok_or(SchedulerError(lent::UNKNOWN))
     }
 
-    pub fn dpc(&self, address: u64) -> Result<&Dpc> {
-        let read = || {
-            let out = self
-                .read(|w, n, o, m| unsafe { unchecked_dpc(w, n, address, o, m) })
-                .map_err(told(messages::DPC))?;
-            Ok(self.dpc_seen(out).expect("a DPC"))
-        };
-        self.seen.dpc.get(address).map_or_else(read, Ok)
+    pub fn dpc(&self, address: u64) -> Result<Dpc> {
+        let out = self.read(|w, n, o, m| unsafe { scheduler_dpc(w, n, address, o, m) })?;
+        Dpc::of(out).ok_or(SchedulerError(lent::UNKNOWN))
     }
 
-    fn timer_seen(&self, out: Record) -> Option<&Timer> {
-        let timer = Timer::of(out)?;
-        Some(self.seen.timer.keep(timer.address, timer))
-    }
-
-    pub(super) fn dpc_seen(&self, out: Record) -> Option<&Dpc> {
-        let dpc = Dpc::of(out)?;
-        Some(self.seen.dpc.keep(dpc.address, dpc))
-    }
-
-    /// Added: the bytes of a timer in guest memory, which the library writes.
-    pub fn timer_image(&self, address: u64) -> Result<Vec<u8>> {
+    fn timer_image(&self, address: u64) -> Result<Vec<u8>> {
         let mut bytes = vec![0; IMAGE_BYTES];
         let (b, k) = (bytes.as_mut_ptr(), bytes.len());
         // SAFETY: `b` has `k` bytes too, apart from the others.
-        let [_, size, ..]: Out = self
-            .read(|w, n, o, m| unsafe { unchecked_timer_image(w, n, address, b, k, o, m) })
-            .map_err(told(messages::TIMER))?;
+        let [_, size, ..]: Out =
+            self.read(|w, n, o, m| unsafe { scheduler_timer_image(w, n, address, b, k, o, m) })?;
         bytes.truncate(size as usize);
         Ok(bytes)
     }
 
-    /// Added: the bytes of a DPC in guest memory, which the library writes.
-    pub fn dpc_image(&self, address: u64) -> Result<Vec<u8>> {
+    fn dpc_image(&self, address: u64) -> Result<Vec<u8>> {
         let mut bytes = vec![0; IMAGE_BYTES];
         let (b, k) = (bytes.as_mut_ptr(), bytes.len());
         // SAFETY: `b` has `k` bytes too, apart from the others.
-        let [_, size, ..]: Out = self
-            .read(|w, n, o, m| unsafe { unchecked_dpc_image(w, n, address, b, k, o, m) })
-            .map_err(told(messages::DPC))?;
+        let [_, size, ..]: Out =
+            self.read(|w, n, o, m| unsafe { scheduler_dpc_image(w, n, address, b, k, o, m) })?;
         bytes.truncate(size as usize);
         Ok(bytes)
     }
 
     pub fn timer_initializations(&self) -> u64 {
         let [_, count, ..]: Out =
-            self.always(|w, n, o, m| unsafe { unchecked_timer_initializations(w, n, o, m) });
+            self.always(|w, n, o, m| unsafe { scheduler_timer_initializations(w, n, o, m) });
         count
     }
 
     pub fn dpc_initializations(&self) -> u64 {
         let [_, count, ..]: Out =
-            self.always(|w, n, o, m| unsafe { unchecked_dpc_initializations(w, n, o, m) });
+            self.always(|w, n, o, m| unsafe { scheduler_dpc_initializations(w, n, o, m) });
         count
     }
 
     pub fn timer_read_overlap(&self, address: u64, size: u64) -> bool {
         flag(self.always(|w, n, o, m| unsafe {
-            unchecked_timer_read_overlap(w, n, address, size, o, m)
+            scheduler_timer_read_overlap(w, n, address, size, o, m)
         }))
     }
 
     pub fn timer_metadata_overlap(&self, address: u64, size: u64) -> bool {
         flag(self.always(|w, n, o, m| unsafe {
-            unchecked_timer_metadata_overlap(w, n, address, size, o, m)
+            scheduler_timer_metadata_overlap(w, n, address, size, o, m)
         }))
     }
 
@@ -294,27 +247,24 @@ impl Scheduler {
     ) -> Result<()> {
         let [pool, base, size, mapped] = backing.words();
         let (x86, manual) = (architecture.word(), manual_reset.into());
-        self.change(|w, n, o, m| unsafe {
-            unchecked_initialize_timer(w, n, address, x86, pool, base, size, mapped, manual, o, m)
-        })
-        .map(done)
-        .map_err(|number| self.timer_refusal(number, address, architecture, backing))
+        let _: Out = self.change(|w, n, o, m| unsafe {
+            scheduler_initialize_timer(w, n, address, x86, pool, base, size, mapped, manual, o, m)
+        })?;
+        Ok(())
     }
 
     /// A DPC that is not idle is refused with 19, where the Rust bench looks at it.
     pub fn initialize_dpc(&mut self, dpc: Dpc) -> Result<()> {
-        let answer = if dpc.phase.busy() {
-            Err(match self.clone().initialize_idle(&dpc) {
-                Err(number @ (4 | 5 | 14)) => number,
-                _ => BUSY,
-            })
-        } else {
-            self.initialize_idle(&dpc)
-        };
-        answer.map_err(|number| self.dpc_refusal(number, &dpc))
+        if dpc.phase.busy() {
+            return Err(match self.clone().initialize_idle(&dpc) {
+                Err(SchedulerError(number @ (4 | 5 | 14))) => SchedulerError(number),
+                _ => SchedulerError(BUSY),
+            });
+        }
+        self.initialize_idle(&dpc)
     }
 
-    fn initialize_idle(&mut self, dpc: &Dpc) -> Answer<()> {
+    fn initialize_idle(&mut self, dpc: &Dpc) -> Result<()> {
         let [pool, base, size, mapped] = dpc.backing.words();
         let x86 = dpc.architecture.word();
         let Dpc {
@@ -323,12 +273,12 @@ impl Scheduler {
             context,
             ..
         } = *dpc;
-        self.change(|w, n, o, m| unsafe {
-            unchecked_initialize_dpc(
+        let _: Out = self.change(|w, n, o, m| unsafe {
+            scheduler_initialize_dpc(
                 w, n, address, x86, pool, base, size, mapped, routine, context, o, m,
             )
-        })
-        .map(done)
+        })?;
+        Ok(())
     }
 
     pub fn set_timer(
@@ -340,10 +290,9 @@ impl Scheduler {
         dpc: u64,
     ) -> Result<bool> {
         self.change(|w, n, o, m| unsafe {
-            unchecked_set_timer(w, n, address, due, absolute.into(), period, dpc, o, m)
+            scheduler_set_timer(w, n, address, due, absolute.into(), period, dpc, o, m)
         })
         .map(flag)
-        .map_err(|number| self.set_refusal(number, dpc))
     }
 
     /// Added: the Rust bench has no such method. A due of -d is d ticks from now, any other a time.
@@ -355,41 +304,32 @@ impl Scheduler {
         dpc: u64,
     ) -> Result<bool> {
         self.change(|w, n, o, m| unsafe {
-            unchecked_set_timer_signed(w, n, address, due, period, dpc, o, m)
+            scheduler_set_timer_signed(w, n, address, due, period, dpc, o, m)
         })
         .map(flag)
-        .map_err(|number| self.set_refusal(number, dpc))
     }
 
     pub fn cancel_timer(&mut self, address: u64) -> Result<bool> {
-        self.change(|w, n, o, m| unsafe { unchecked_cancel_timer(w, n, address, o, m) })
+        self.change(|w, n, o, m| unsafe { scheduler_cancel_timer(w, n, address, o, m) })
             .map(flag)
-            .map_err(told(messages::TIMER))
     }
 
-    pub fn pending_timer_dpc(&self) -> Option<&Timer> {
-        self.timer_seen(
-            self.always(|w, n, o, m| unsafe { unchecked_pending_timer_dpc(w, n, o, m) }),
-        )
+    pub fn pending_timer_dpc(&self) -> Option<Timer> {
+        let out = self.always(|w, n, o, m| unsafe { scheduler_pending_timer_dpc(w, n, o, m) });
+        Timer::of(self, out)
     }
 
     pub fn require_timer_release(&self, address: u64, size: u64) -> Result<()> {
-        self.timer_release(address, size)
-            .map_err(|_| self.release_refusal(address, size))
-    }
-
-    pub(super) fn timer_release(&self, address: u64, size: u64) -> Answer<()> {
-        self.read(|w, n, o, m| unsafe {
-            unchecked_require_timer_release(w, n, address, size, o, m)
-        })
-        .map(done)
+        let _: Out = self.read(|w, n, o, m| unsafe {
+            scheduler_require_timer_release(w, n, address, size, o, m)
+        })?;
+        Ok(())
     }
 
     pub fn retire_timer_backing(&mut self, address: u64, size: u64) -> Result<()> {
-        self.change(|w, n, o, m| unsafe {
-            unchecked_retire_timer_backing(w, n, address, size, o, m)
-        })
-        .map(done)
-        .map_err(|_| self.release_refusal(address, size))
+        let _: Out = self.change(|w, n, o, m| unsafe {
+            scheduler_retire_timer_backing(w, n, address, size, o, m)
+        })?;
+        Ok(())
     }
 }

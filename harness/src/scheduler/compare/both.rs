@@ -1,7 +1,7 @@
 //! A scheduler on both sides, and one step of its history.
 use super::put::Put;
 use crate::scheduler::answer::{self, Answer};
-use crate::scheduler::proved::{by_entries, proved, unguarded};
+use crate::scheduler::proved::proved;
 use crate::scheduler::reference::{Lengths, Reference};
 use crate::scheduler::refusals::FORM;
 use crate::scheduler::room::{Room, UNUSED};
@@ -137,45 +137,11 @@ impl Both {
                 "expected {expected:?}\nproved   {number} {written:?} {proved:?}"
             ));
         }
-        if self.fault.is_none() && !call.opens() && lent.words >= self.limits().words() {
-            self.without_check(call, lent, number, &room)?;
-        }
         if matches!(call, Call::Open { .. }) && number == 0 {
             self.fault = None;
         }
         self.compare(call.reads() || number != 0)?;
         Ok(expected)
-    }
-
-    /// On words in form the call without the check, and a walk of the entries where it reads by position, give the same.
-    fn without_check(
-        &self,
-        call: &Call,
-        lent: Lengths,
-        number: u64,
-        room: &Room,
-    ) -> Result<(), String> {
-        let mut words = self.before.clone();
-        let mut other = Room::unused();
-        let unchecked = unguarded(other.lent(&mut words, lent), call);
-        if (unchecked, &words, &other) != (number, &self.words, room) {
-            return Err(format!(
-                "checked {number} {:?}\nunchecked {unchecked} {:?}",
-                room.written(),
-                other.written()
-            ));
-        }
-        let mut walk = Room::unused();
-        if let Some(walked) = by_entries(walk.lent(&mut words, lent), call)
-            && (walked, &walk) != (number, room)
-        {
-            return Err(format!(
-                "by position {number} {:?}\nby entries {walked} {:?}",
-                room.written(),
-                walk.written()
-            ));
-        }
-        Ok(())
     }
 
     /// The words against the original's state, and against the words before the call.
