@@ -1,4 +1,4 @@
-//! Links the proved libraries, which `rt staticlib` writes.
+//! Links the proved libraries, which `bindings/library` writes.
 fn main() {
     let folder = concat!(env!("CARGO_MANIFEST_DIR"), "/../target/staticlib");
     println!("cargo:rustc-link-search=native={folder}");

@@ -1,4 +1,4 @@
-//! Links the proved library, which `rt staticlib exports` writes: from the folder that the variable
+//! Links the proved library, which `bindings/library exports` writes: from the folder that the variable
 //! `DRIVER_BENCH_LIB` names, by default `target/staticlib` of the repository.
 use std::env;
 

@@ -1,0 +1,30 @@
+// A timer and a DPC as the guest's memory has them: the bytes at the start of `bytes`, and their count in `out`. An `out` under four words
+// and `bytes` under 64 are refused with 27.
+ghost use Rattle.std.specs.Prelude.{◌≡◌, length};
+ghost use Rattle.model.specs.Call as call;
+ghost use Rattle.calls.specs.Called.{called};
+ghost use Rattle.exports.specs.RecordCall.{given_image, imaged_by};
+
+#[unsafe(no_mangle)]
+pub extern "C" fn scheduler_timer_image(
+    words: &[u64],
+    address: u64,
+    bytes: &mut [u8],
+    out: &mut [u64],
+) -> u64
+    ensures { given_image result bytes.new out.new ≡ imaged_by bytes.old out.old (called words.now (call.Reads (call.TimerImage address (length bytes.old))) bytes.old) }
+{
+    exports::image_calls::scheduler_timer_image(words, address, bytes, out)
+}
+
+#[unsafe(no_mangle)]
+pub extern "C" fn scheduler_dpc_image(
+    words: &[u64],
+    address: u64,
+    bytes: &mut [u8],
+    out: &mut [u64],
+) -> u64
+    ensures { given_image result bytes.new out.new ≡ imaged_by bytes.old out.old (called words.now (call.Reads (call.DpcImage address (length bytes.old))) bytes.old) }
+{
+    exports::image_calls::scheduler_dpc_image(words, address, bytes, out)
+}

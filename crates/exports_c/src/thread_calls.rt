@@ -1,0 +1,33 @@
+// What is read of threads, into an `out` of 24 words; a shorter one is refused with 27.
+ghost use Rattle.std.specs.Prelude.{◌≡◌};
+ghost use Rattle.model.specs.Call as call;
+ghost use Rattle.calls.specs.Called.{called};
+ghost use Rattle.calls.specs.Guard as kind;
+ghost use Rattle.exports.specs.SchedulerAnswer.{given};
+ghost use Rattle.exports.specs.RecordCall.{read_by};
+
+#[unsafe(no_mangle)]
+pub extern "C" fn scheduler_thread(words: &[u64], id: u64, out: &mut [u64]) -> u64
+    ensures { given result words.now out.new ≡ read_by kind.threads words.now out.old (called words.now (call.Reads (call.Thread id))) }
+{
+    exports::thread_calls::scheduler_thread(words, id, out)
+}
+
+#[unsafe(no_mangle)]
+pub extern "C" fn scheduler_threads(words: &[u64], position: u64, out: &mut [u64]) -> u64
+    ensures { given result words.now out.new ≡ read_by kind.threads words.now out.old (called words.now (call.Reads (call.Threads position))) }
+{
+    exports::thread_calls::scheduler_threads(words, position, out)
+}
+
+#[unsafe(no_mangle)]
+pub extern "C" fn scheduler_waited_object(
+    words: &[u64],
+    id: u64,
+    position: u64,
+    out: &mut [u64],
+) -> u64
+    ensures { given result words.now out.new ≡ read_by kind.places words.now out.old (called words.now (call.Reads (call.WaitedObject id position))) }
+{
+    exports::thread_calls::scheduler_waited_object(words, id, position, out)
+}
