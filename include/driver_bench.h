@@ -1,5 +1,5 @@
 /*
- * The driver bench for C: every function of the library that `rt staticlib exports` writes
+ * The driver bench for C: every function of the library that `bindings/library exports` writes
  * (target/staticlib/libexports.a).
  *
  * A scheduler and a clock are words that the caller lends. Each slice is a pointer and a length; slices of one call must be
