@@ -147,4 +147,40 @@ unfolding asked on_words
 returns-in-RestoredDpc c = simp c.in-RestoredDpc.is c.restored_dpc.ensures
 
 pub returns-in_default : goal.returns-in_default
-returns-in_default c = no_words _ _ c.args.c c.in_default.in_default-own.keys36
+returns-in_default c = no_words _ _ c.args.c (record {
+  event = c.in_default.not-Event;
+  create = c.in_default.not-Create;
+  waits = c.in_default.not-Wait;
+  set_event = c.in_default.not-Set;
+  yields = c.in_default.not-Yield;
+  current = c.in_default.not-Current;
+  require_event_release = c.in_default.not-RequireEventRelease;
+  retire_event_backing = c.in_default.not-RetireEventBacking;
+  mutex_owner = c.in_default.not-MutexOwner;
+  adopt_mutex = c.in_default.not-AdoptMutex;
+  mutex_waiters = c.in_default.not-MutexWaiters;
+  priority = c.in_default.not-Priority;
+  initialize_mutex = c.in_default.not-InitializeMutex;
+  delay_until = c.in_default.not-DelayUntil;
+  advance_to = c.in_default.not-AdvanceTo;
+  release_mutex = c.in_default.not-ReleaseMutex;
+  reset_event = c.in_default.not-ResetEvent;
+  terminate = c.in_default.not-Terminate;
+  timer_initializations = c.in_default.not-TimerInitializations;
+  dpc_initializations = c.in_default.not-DpcInitializations;
+  timer_read_overlap = c.in_default.not-TimerReadOverlap;
+  timer_metadata_overlap = c.in_default.not-TimerMetadataOverlap;
+  initialize_timer = c.in_default.not-InitializeTimer;
+  initialize_dpc = c.in_default.not-InitializeDpc;
+  set_timer = c.in_default.not-SetTimer;
+  cancel_timer = c.in_default.not-CancelTimer;
+  require_timer_release = c.in_default.not-RequireTimerRelease;
+  retire_timer_backing = c.in_default.not-RetireTimerBacking;
+  configure_dpc_dispatch = c.in_default.not-ConfigureDpcDispatch;
+  queued_dpcs = c.in_default.not-QueuedDpcs;
+  insert_queue_dpc = c.in_default.not-InsertQueueDpc;
+  remove_queue_dpc = c.in_default.not-RemoveQueueDpc;
+  start_dpc = c.in_default.not-StartDpc;
+  returned_dpc = c.in_default.not-ReturnedDpc;
+  restored_dpc = c.in_default.not-RestoredDpc;
+})
