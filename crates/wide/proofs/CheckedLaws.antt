@@ -1,24 +1,15 @@
--- The two cases of a checked operation.
-use mathlib.Core.Path.{◌≡◌, ap, ◌∙◌}
-use Prim.Native.Nat.{ℕ, ◌+◌, ◌*◌, ◌^◌, ◌≤◌, ◌<◌}
-use native.Mathlib.Omega.{arith}
-use borrow.Author.Tests.{lt-ltb, le-ltb}
+-- A checked operation of std answers as `checked` says of its exact result.
+use Rattle.std.proofs.Common.{◌≡◌, ℕ, ◌^◌, ◌<◌, ◌≤◌, SomeIff, Option, Some, None, ap, ◌∙◌, arith, lt-ltb, le-ltb}
 use Rattle.wide.specs.Checked.{checked}
-use Rattle.wide.specs.declared.Checked.TheVariants.{Value, Overflow}
 
-pub fitting : (n : ℕ) → n < 2 ^ 64 → Value n ≡ checked n
+pub fitting : (n : ℕ) → n < 2 ^ 64 → Some n ≡ checked n
 unfolding checked
 fitting n h = simp (lt-ltb _ _ h)
 
-pub passing : (n : ℕ) → 2 ^ 64 ≤ n → Overflow ≡ checked n
+pub passing : (n : ℕ) → (n < 2 ^ 64 → ⊥) → None ≡ checked n
 unfolding checked
-passing n h = simp (le-ltb _ _ h)
+passing n h = simp (le-ltb _ _ (let z : 2 ^ 64 ≤ n = omega arith in z))
 
--- of an exact product in two words
-pub one_word : (hi lo n : ℕ) → hi * 2 ^ 64 + lo ≡ n → hi ≡ 0 → lo < 2 ^ 64 → Value lo ≡ checked n
-one_word hi lo n e z h =
-    let same : lo ≡ n = omega arith in
-    ap Value same ∙ fitting n (omega arith)
-
-pub two-words : (hi lo n : ℕ) → hi * 2 ^ 64 + lo ≡ n → (hi ≡ 0 → ⊥) → Overflow ≡ checked n
-two-words hi lo n e z = passing n (omega arith)
+pub checked_is : (r : Option ℕ) (n : ℕ) → SomeIff r (n < 2 ^ 64) n → r ≡ checked n
+checked_is None n h = passing n h
+checked_is (Some m) n h = ap Some h.1 ∙ fitting n h.0

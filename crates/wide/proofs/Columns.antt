@@ -84,7 +84,3 @@ long-division h lo = omega arith
 pub tenth-is : (hi lo : ℕ) → lo < 2 ^ 64
     → (let upper = hi % 10 * 2 ^ 32 + lo / 2 ^ 32 in upper / 10 * 2 ^ 32 + (upper % 10 * 2 ^ 32 + lo % 2 ^ 32) / 10) ≡ (hi * 2 ^ 64 + lo) / 10 % 2 ^ 64
 tenth-is hi lo h = long-division (hi % 10) lo ∙ sym (last-digit hi lo h)
-
--- a product's lower word is its remainder, and a product below 2^64 has no upper word
-pub lower_word : (hi lo : ℕ) → lo < 2 ^ 64 → lo ≡ (hi * 2 ^ 64 + lo) % 2 ^ 64
-lower_word hi lo h = omega arith

@@ -1,7 +1,5 @@
 -- What a checked operation answers, of its exact result.
-use Rattle.std.specs.Prelude.{cond, ℕ, ◌^◌, ltb}
-use Rattle.wide.specs.declared.Checked.{Checked}
-use Rattle.wide.specs.declared.Checked.TheVariants.{Value, Overflow}
+use Rattle.std.specs.Prelude.{cond, ℕ, ◌^◌, ltb, Option, Some, None}
 
-unfoldable pub checked : ℕ → Checked
-checked n = cond (ltb n (2 ^ 64)) (Value n) Overflow
+unfoldable pub checked : ℕ → Option ℕ
+checked n = cond (ltb n (2 ^ 64)) (Some n) None

@@ -1,21 +1,13 @@
-// Arithmetic past 64 bits: exact products in two words, and sums and products that say when they do not fit.
+// Arithmetic past 64 bits: exact products in two words, and their tenths.
 #![tactic(auto)]
 
 ghost use Rattle.std.specs.Prelude.{◌≡◌, ◌+◌, ◌*◌, ◌/◌, ◌%◌, ◌^◌};
-ghost use Rattle.wide.specs.Checked.{checked};
 
 // The number hi * 2^64 + lo.
-#[derive(Clone, Copy)]
+#[derive(Clone, Copy, Debug, PartialEq, Eq)]
 pub struct Wide {
     pub hi: u64,
     pub lo: u64,
-}
-
-// A number that fits 64 bits, or that there is none.
-#[derive(Clone, Copy)]
-pub enum Checked {
-    Value(u64),
-    Overflow,
 }
 
 // The exact product, by columns of 32 bits with their carries.
@@ -35,14 +27,6 @@ pub fn product(a: u64, b: u64) -> Wide
     }
 }
 
-// a * b, modulo 2^64.
-pub fn wrapping_mul(a: u64, b: u64) -> u64
-    ensures { result ≡ a * b % 2 ^ 64 }
-{
-    let p = product(a, b);
-    p.lo
-}
-
 // The quotient by 10, modulo 2^64: long division by digits of 32 bits. Only the last decimal digit of hi reaches it.
 pub fn tenth(p: Wide) -> u64
     ensures { result ≡ (p.hi * 2 ^ 64 + p.lo) / 10 % 2 ^ 64 }
@@ -57,23 +41,4 @@ pub fn wrapping_mul_tenth(a: u64, b: u64) -> u64
     ensures { result ≡ a * b / 10 % 2 ^ 64 }
 {
     tenth(product(a, b))
-}
-
-pub fn checked_add(a: u64, b: u64) -> Checked
-    ensures { result ≡ checked (a + b) }
-{
-    if a <= u64::MAX - b {
-        return Checked::Value(a + b);
-    }
-    Checked::Overflow
-}
-
-pub fn checked_mul(a: u64, b: u64) -> Checked
-    ensures { result ≡ checked (a * b) }
-{
-    let p = product(a, b);
-    if p.hi == 0 {
-        return Checked::Value(p.lo);
-    }
-    Checked::Overflow
 }
