@@ -1,7 +1,9 @@
 -- An advance that is accepted, as plain ranges.
-use Rattle.std.proofs.Common.{◌≡◌, ℕ, ◌+◌, ◌/◌, ◌^◌, ◌<◌, ◌≤◌, true, false, arith, ltb-true, le-ltb, leb-true}
+use Rattle.std.proofs.Common.{◌≡◌, ℕ, ◌+◌, ◌/◌, ◌^◌, ◌<◌, ◌≤◌, true, false, Bool, Option, Some, None, SomeIff, Ok, Err, ok_or, cond, ltb, arith, ltb-true, lt-ltb, le-ltb, leb-true, le-leb, ap, refl}
+use mathlib.Core.Bool.{false≢true}
 use Rattle.clock.specs.declared.GuestClock.{GuestClock}
-use Rattle.clock.specs.Clock.{most_uptime, fraction, advances}
+use Rattle.clock.specs.declared.ClockError.TheVariants.{Overflow}
+use Rattle.clock.specs.Clock.{most_uptime, fraction, advances, done, if_fits, fitted}
 use Rattle.clock.proofs.FormLaws.{both}
 
 pub record Advances (c : GuestClock) (ticks : ℕ) : Type 0 where
@@ -16,9 +18,18 @@ advance-facts c ticks e =
     let (part, uptime) = both _ _ e₁ in
     record { utc-fits = ltb-true _ _ utc; fraction-fits = ltb-true _ _ part; uptime-most = leb-true _ _ uptime }
 
--- more ticks than a word holds pass every clock
-pub too_many : (c : GuestClock) (ticks : ℕ) → 2 ^ 64 ≤ ticks → advances c ticks ≡ false
+pub facts-advance : (c : GuestClock) (ticks : ℕ) → Advances c ticks → advances c ticks ≡ true
 unfolding advances
-too_many c ticks h =
-    let utc : 2 ^ 64 ≤ c.utc_filetime + ticks = omega arith in
-    simp (le-ltb _ _ utc)
+facts-advance c ticks a = simp (lt-ltb _ _ a.utc-fits, lt-ltb _ _ a.fraction-fits, le-leb _ _ a.uptime-most)
+
+-- the outcome of a clock after that there is only where it fits
+pub fitted-is : (fits : Bool) (after c : GuestClock) (r : Option GuestClock) → SomeIff r (fits ≡ true) after → fitted r c ≡ if_fits fits after c
+fitted-is true after c None h = absurd (h refl)
+fitted-is false after c None h = refl
+fitted-is true after c (Some found) h = ap done h.1
+fitted-is false after c (Some found) h = absurd (false≢true h.0)
+
+-- a reading of a sum that there is only where it fits
+pub reading_is : (r : Option ℕ) (n : ℕ) → SomeIff r (n < 2 ^ 64) n → ok_or r Overflow ≡ cond (ltb n (2 ^ 64)) (Ok n) (Err Overflow)
+reading_is None n h = simp (le-ltb n (2 ^ 64) (omega (arith, h)))
+reading_is (Some m) n h = simp (lt-ltb n (2 ^ 64) h.0, h.1)

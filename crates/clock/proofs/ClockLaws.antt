@@ -1,10 +1,9 @@
 -- What every call keeps: a clock in form stays in form, its ticks never fall, and a refused call changes nothing, but for `instruction`.
-use Rattle.std.proofs.Common.{◌≡◌, ℕ, ◌+◌, ◌-◌, ◌*◌, ◌/◌, ◌%◌, ◌^◌, ◌≤◌, Bool, true, false, cond, ◌&&◌, eqb, ltb, ℤ, refl, true≢false, le_trans, le_refl, arith, lit≤}
+use Rattle.std.proofs.Common.{◌≡◌, ℕ, ◌+◌, ◌-◌, ◌*◌, ◌/◌, ◌%◌, ◌^◌, ◌≤◌, Bool, true, false, cond, ◌&&◌, eqb, ltb, ℤ, refl, true≢false, le_trans, le_refl, arith, lit≤, Ok, Err}
 use borrow.Author.Tests.{eqb-false}
 use Rattle.clock.specs.declared.GuestClock.{GuestClock}
 use Rattle.clock.specs.declared.ClockError.{ClockError}
 use Rattle.clock.specs.declared.ClockError.TheVariants.{InvalidConfiguration, Overflow, OutOfForm}
-use Rattle.clock.specs.declared.Created.TheVariants as created-as
 use Rattle.clock.specs.declared.Outcome.{Outcome}
 use Rattle.clock.specs.Clock.{offset_in_range, in_range, in_form, refused, done, if_fits, is_ok, when_in_form, read_in_form, started, created}
 use Rattle.clock.specs.Clock.{advances, moved, advanced, advanced_microseconds, advance100ns, advance_microseconds, advance_milliseconds}
@@ -135,11 +134,11 @@ pub form-kept : (k : Call) (c : GuestClock) → in_form c ≡ true → in_form (
 form-kept k c e = facts-form _ ((later k c).form (form-facts c e))
 
 -- with `form-kept`: from an accepted `new` on, a clock is always in form
-pub new-in-form : (utc uptime : ℕ) (offset : ℤ) (mhz : ℕ) (c : GuestClock) → created utc uptime offset mhz ≡ created-as.Ok c → in_form c ≡ true
+pub new-in-form : (utc uptime : ℕ) (offset : ℤ) (mhz : ℕ) (c : GuestClock) → created utc uptime offset mhz ≡ Ok c → in_form c ≡ true
 unfolding created started in_form
 new-in-form utc uptime offset mhz c = go (in_range uptime offset mhz) refl
   where
-    go : (b : Bool) → in_range uptime offset mhz ≡ b → cond b (created-as.Ok (started utc uptime offset mhz)) (created-as.Err InvalidConfiguration) ≡ created-as.Ok c → in_form c ≡ true
+    go : (b : Bool) → in_range uptime offset mhz ≡ b → cond b (Ok (started utc uptime offset mhz)) (Err InvalidConfiguration) ≡ Ok c → in_form c ≡ true
     go true e q =
         let same-clock : c ≡ started utc uptime offset mhz = cc in
         simp (same-clock, e)

@@ -1,32 +1,17 @@
 -- A clock in form, as plain ranges.
-use Rattle.std.proofs.Common.{◌≡◌, ℕ, ◌<◌, ◌≤◌, Bool, true, false, not, ◌&&◌, ltb, leb, ℤ, pos, negsuc, sym, refl, ◌∙◌, ltb-false, ltb-true, lt-ltb, le-leb, leb-true}
+use Rattle.std.proofs.Common.{◌≡◌, ℕ, ◌<◌, ◌≤◌, Bool, true, false, cond, not, ◌&&◌, ltb, leb, ℤ, pos, negsuc, sym, refl, ◌∙◌, ltb-false, ltb-true, lt-ltb, le-leb, leb-true, Result, Err}
 use mathlib.Core.Bool.{false≢true}
 use lib.Signed.{lt_z, le_z}
 use borrow.Author.Tests.{lt-leb}
 use Rattle.clock.specs.declared.GuestClock.{GuestClock}
 use Rattle.clock.specs.declared.ClockError.TheVariants.{OutOfForm}
 use Rattle.clock.specs.declared.Outcome.{Outcome}
-use Rattle.clock.specs.declared.Reading.{Reading}
-use Rattle.clock.specs.declared.Reading.TheVariants as reading
+use Rattle.clock.specs.declared.ClockError.{ClockError}
 use Rattle.clock.specs.Clock.{most_uptime, offset_in_range, in_range, in_form, refused, when_in_form, read_in_form}
 
 pub both : (a b : Bool) → (a && b) ≡ true → (a ≡ true) × (b ≡ true)
 both true b e = (refl, e)
 both false b e = absurd (false≢true e)
-
--- `b ≤ a` is the opposite of `a < b`
-opposite : (a b : ℕ) → leb b a ≡ not (ltb a b)
-opposite a b = go (ltb a b) refl
-  where
-    go : (t : Bool) → ltb a b ≡ t → leb b a ≡ not t
-    go true e = lt-leb b a (ltb-true a b e)
-    go false e = le-leb b a (ltb-false a b e)
-
-pub oppositeℤ : (a b : ℤ) → le_z b a ≡ not (lt_z a b)
-oppositeℤ (pos a) (pos b) = opposite a b
-oppositeℤ (pos a) (negsuc b) = refl
-oppositeℤ (negsuc a) (pos b) = refl
-oppositeℤ (negsuc a) (negsuc b) = opposite b a
 
 pub record InForm (c : GuestClock) : Type 0 where
   pub ticks-most : c.submillisecond_100ns < 10000
@@ -89,10 +74,19 @@ module _ (c : GuestClock) {r : Bool} (e : r ≡ in_form c) where
   unfolding when_in_form
   let-in t p = simp (held e t) p
 
-  pub read_out : (x : Reading) → r ≡ false → reading.Err OutOfForm ≡ read_in_form c x
+  pub read_out : (x : Result ℕ ClockError) → r ≡ false → Err OutOfForm ≡ read_in_form c x
   unfolding read_in_form
   read_out x t = simp (failed e t)
 
-  pub read-in : {x y : Reading} → r ≡ true → x ≡ y → x ≡ read_in_form c y
+  pub read-in : {x y : Result ℕ ClockError} → r ≡ true → x ≡ y → x ≡ read_in_form c y
   unfolding read_in_form
   read-in t p = simp (held e t) p
+
+-- the outcome of a call by that test
+pub ended-is : (c : GuestClock) {x o : Outcome} → (in_form c ≡ false → x ≡ refused c OutOfForm) → (in_form c ≡ true → x ≡ o) → x ≡ when_in_form c o
+unfolding when_in_form
+ended-is c {x} {o} = go (in_form c)
+  where
+    go : (b : Bool) → (b ≡ false → x ≡ refused c OutOfForm) → (b ≡ true → x ≡ o) → x ≡ cond b o (refused c OutOfForm)
+    go true out ended = ended refl
+    go false out ended = out refl

@@ -1,4 +1,3 @@
-pub mod CheckedLaws
 pub mod FormLaws
 pub mod AdvanceLaws
 pub mod ClockLaws

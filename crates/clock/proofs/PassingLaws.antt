@@ -1,10 +1,9 @@
 -- Of any clock: what an accepted call makes of the reads, and what a refused instruction leaves.
-use Rattle.std.proofs.Common.{◌≡◌, ℕ, ◌+◌, ◌-◌, ◌*◌, ◌/◌, ◌%◌, ◌^◌, ◌<◌, ◌≤◌, Bool, true, false, cond, ◌&&◌, eqb, ltb, sym, refl, ap, ◌∙◌, true≢false, div-add-mod', arith, ltb-false, ltb-true, le-ltb, lt-ltb, eqb-true}
+use Rattle.std.proofs.Common.{◌≡◌, ℕ, ◌+◌, ◌-◌, ◌*◌, ◌/◌, ◌%◌, ◌^◌, ◌<◌, ◌≤◌, Bool, true, false, cond, ◌&&◌, eqb, ltb, sym, refl, ap, ◌∙◌, true≢false, div-add-mod', arith, ltb-false, ltb-true, le-ltb, lt-ltb, eqb-true, Result, Ok, Err}
 use mathlib.Core.Bool.{false≢true}
 use Rattle.clock.specs.declared.GuestClock.{GuestClock}
 use Rattle.clock.specs.declared.ClockError.TheVariants.{Overflow, OutOfForm}
-use Rattle.clock.specs.declared.Reading.{Reading}
-use Rattle.clock.specs.declared.Reading.TheVariants as reading
+use Rattle.clock.specs.declared.ClockError.{ClockError}
 use Rattle.clock.specs.declared.Outcome.{Outcome}
 use Rattle.clock.specs.Clock.{most_uptime, in_form, refused, done, if_fits, is_ok, when_in_form, read_in_form}
 use Rattle.clock.specs.Clock.{advances, moved, advanced, advanced_microseconds, advance100ns, advance_microseconds, advance_milliseconds}
@@ -22,18 +21,18 @@ record Ticks (c : GuestClock) (n : ℕ) : Type 0 where
   count : ticks_of c ≡ n
   fits : n < 2 ^ 64
 
-counted : (fits : Bool) → ℕ → Reading
-counted fits n = cond fits (reading.Ok n) (reading.Err Overflow)
+counted : (fits : Bool) → ℕ → Result ℕ ClockError
+counted fits n = cond fits (Ok n) (Err Overflow)
 
 qpc-form : (c : GuestClock) → in_form c ≡ true → qpc c ≡ counted (ltb (ticks_of c) (2 ^ 64)) (ticks_of c)
 unfolding qpc read_in_form counted
 qpc-form c e = simp e
 
-qpc-ticks : (c : GuestClock) (n : ℕ) → qpc c ≡ reading.Ok n → Ticks c n
+qpc-ticks : (c : GuestClock) (n : ℕ) → qpc c ≡ Ok n → Ticks c n
 unfolding qpc read_in_form
 qpc-ticks c n = go (in_form c) (ltb (ticks_of c) (2 ^ 64)) refl refl
   where
-    go : (b t : Bool) → in_form c ≡ b → ltb (ticks_of c) (2 ^ 64) ≡ t → cond b (cond t (reading.Ok (ticks_of c)) (reading.Err Overflow)) (reading.Err OutOfForm) ≡ reading.Ok n → Ticks c n
+    go : (b t : Bool) → in_form c ≡ b → ltb (ticks_of c) (2 ^ 64) ≡ t → cond b (cond t (Ok (ticks_of c)) (Err Overflow)) (Err OutOfForm) ≡ Ok n → Ticks c n
     go true true e f q =
         let same : ticks_of c ≡ n = cc in
         let room : ticks_of c < 2 ^ 64 = ltb-true _ _ f in
@@ -45,28 +44,28 @@ record Past (c : GuestClock) : Type 0 where
   form : in_form c ≡ true
   past : 2 ^ 64 ≤ ticks_of c
 
-qpc-past : (c : GuestClock) → qpc c ≡ reading.Err Overflow → Past c
+qpc-past : (c : GuestClock) → qpc c ≡ Err Overflow → Past c
 unfolding qpc read_in_form
 qpc-past c = go (in_form c) (ltb (ticks_of c) (2 ^ 64)) refl refl
   where
-    go : (b t : Bool) → in_form c ≡ b → ltb (ticks_of c) (2 ^ 64) ≡ t → cond b (cond t (reading.Ok (ticks_of c)) (reading.Err Overflow)) (reading.Err OutOfForm) ≡ reading.Err Overflow → Past c
+    go : (b t : Bool) → in_form c ≡ b → ltb (ticks_of c) (2 ^ 64) ≡ t → cond b (cond t (Ok (ticks_of c)) (Err Overflow)) (Err OutOfForm) ≡ Err Overflow → Past c
     go true true e f q = absurd (let z : ◌≡◌ {A = ℕ} 0 1 = cc in omega arith)
     go true false e f q = record { form = e; past = ltb-false _ _ f }
     go false t e f q = absurd (let z : ◌≡◌ {A = ℕ} 0 1 = cc in omega arith)
 
 module _ (c : GuestClock) (e : in_form c ≡ true) where
-  reads-ticks : (n : ℕ) → ticks_of c ≡ n → n < 2 ^ 64 → qpc c ≡ reading.Ok n
+  reads-ticks : (n : ℕ) → ticks_of c ≡ n → n < 2 ^ 64 → qpc c ≡ Ok n
   unfolding counted
   reads-ticks n p h = simp (qpc-form c e, p, lt-ltb n (2 ^ 64) h)
 
-  reads-past : 2 ^ 64 ≤ ticks_of c → qpc c ≡ reading.Err Overflow
+  reads-past : 2 ^ 64 ≤ ticks_of c → qpc c ≡ Err Overflow
   unfolding counted
   reads-past h = simp (qpc-form c e, le-ltb (ticks_of c) (2 ^ 64) h)
 
 -- `tick64` reads the last multiple of 16 among the milliseconds of `qpc`
-pub tick64-reads : (c : GuestClock) (n : ℕ) → qpc c ≡ reading.Ok n → tick64 c ≡ reading.Ok (n / 160000 * 16)
+pub tick64-reads : (c : GuestClock) (n : ℕ) → qpc c ≡ Ok n → tick64 c ≡ Ok (n / 160000 * 16)
 unfolding tick64 read_in_form
-tick64-reads c n q = simp t-form (ap reading.Ok (whole c.uptime_ms c.submillisecond_100ns (form-facts c t-form).ticks-most (qpc-ticks c n q).count))
+tick64-reads c n q = simp t-form (ap Ok (whole c.uptime_ms c.submillisecond_100ns (form-facts c t-form).ticks-most (qpc-ticks c n q).count))
   where
     t-form : in_form c ≡ true
     t-form = (qpc-ticks c n q).form
@@ -75,9 +74,9 @@ tick64-reads c n q = simp t-form (ap reading.Ok (whole c.uptime_ms c.submillisec
     whole uptime part h p = omega arith
 
 -- and where `qpc` passes a word, that of the longest uptime
-pub tick64-past : (c : GuestClock) → qpc c ≡ reading.Err Overflow → tick64 c ≡ reading.Ok 1844674407370944
+pub tick64-past : (c : GuestClock) → qpc c ≡ Err Overflow → tick64 c ≡ Ok 1844674407370944
 unfolding tick64 read_in_form
-tick64-past c q = simp p.form (ap reading.Ok (last c.uptime_ms c.submillisecond_100ns f.ticks-most f.uptime-most p.past))
+tick64-past c q = simp p.form (ap Ok (last c.uptime_ms c.submillisecond_100ns f.ticks-most f.uptime-most p.past))
   where
     p : Past c
     p = qpc-past c q
@@ -200,13 +199,13 @@ fits-runs fits c after d x m a =
     rw (same, fit) m
 
 -- what `tsc` reads is what `qpc` reads in cycles, and the pending ones
-tsc-reads : (c : GuestClock) (a : ℕ) → tsc c ≡ reading.Ok a → (n : ℕ) × (qpc c ≡ reading.Ok n) × (cycles_at c n ≡ a)
+tsc-reads : (c : GuestClock) (a : ℕ) → tsc c ≡ Ok a → (n : ℕ) × (qpc c ≡ Ok n) × (cycles_at c n ≡ a)
 unfolding tsc on_reading
 tsc-reads c a = go (qpc c) refl
   where
-    go : (r : Reading) → qpc c ≡ r → on_reading (cycles_at c) r ≡ reading.Ok a → (n : ℕ) × (qpc c ≡ reading.Ok n) × (cycles_at c n ≡ a)
-    go (reading.Ok n) q e = (n, q, cc)
-    go (reading.Err why) q e = absurd (let z : ◌≡◌ {A = ℕ} 0 1 = cc in omega arith)
+    go : (r : Result ℕ ClockError) → qpc c ≡ r → on_reading (cycles_at c) r ≡ Ok a → (n : ℕ) × (qpc c ≡ Ok n) × (cycles_at c n ≡ a)
+    go (Ok n) q e = (n, q, cc)
+    go (Err why) q e = absurd (let z : ◌≡◌ {A = ℕ} 0 1 = cc in omega arith)
 
 -- cycles that become time, and those added, modulo a word
 wraps : (a b p p' x : ℕ) → p' + b ≡ p + x → ((a + b) % 2 ^ 64 + p') % 2 ^ 64 ≡ ((a % 2 ^ 64 + p) % 2 ^ 64 + x) % 2 ^ 64
@@ -217,7 +216,7 @@ cycles-sum before d m p p' x e =
     let whole : (before + 10 * d) * m / 10 ≡ before * m / 10 + d * m = omega arith in
     rw whole (wraps (before * m / 10) (d * m) p p' x e)
 
-stamped : (c after : GuestClock) (d x a n : ℕ) → Moves c after (10 * d) → Runs c after d x → tsc c ≡ reading.Ok a → qpc after ≡ reading.Ok n → tsc after ≡ reading.Ok ((a + x) % 2 ^ 64)
+stamped : (c after : GuestClock) (d x a n : ℕ) → Moves c after (10 * d) → Runs c after d x → tsc c ≡ Ok a → qpc after ≡ Ok n → tsc after ≡ Ok ((a + x) % 2 ^ 64)
 unfolding tsc on_reading
 stamped c after d x a n m r t q =
     let (before, read, told) = tsc-reads c a t in
@@ -226,7 +225,7 @@ stamped c after d x a n m r t q =
     let later : n ≡ before + 10 * d = omega arith in
     let sum = cycles-sum before d c.base_mhz c.pending_cycles after.pending_cycles x r.cycles in
     let is : cycles_at after n ≡ (a + x) % 2 ^ 64 = rw (later, r.mhz) (sum ∙ ap (λ (y : ℕ). (y + x) % 2 ^ 64) told) in
-    simp q (ap reading.Ok is)
+    simp q (ap Ok is)
 
 -- how many whole microseconds a call lasts, and the cycles that it adds
 record Adds (k : Call) (c after : GuestClock) : Type 0 where
@@ -282,7 +281,7 @@ adds Instruction c w a =
     rw same (instructed-runs c (ap (λ (o : Outcome). is_ok o.answer) (sym same) ∙ a))
 
 -- an accepted call that lasts whole microseconds adds its cycles to the time stamp, modulo a word: 100 for an instruction, none for a flush
-pub time-stamp : (k : Call) (c : GuestClock) (a n : ℕ) → lasts k c % 10 ≡ 0 → is_ok (called k c).answer ≡ true → tsc c ≡ reading.Ok a → qpc (called k c).clock ≡ reading.Ok n → tsc (called k c).clock ≡ reading.Ok ((a + stamps k c) % 2 ^ 64)
+pub time-stamp : (k : Call) (c : GuestClock) (a n : ℕ) → lasts k c % 10 ≡ 0 → is_ok (called k c).answer ≡ true → tsc c ≡ Ok a → qpc (called k c).clock ≡ Ok n → tsc (called k c).clock ≡ Ok ((a + stamps k c) % 2 ^ 64)
 time-stamp k c a n w ok t q =
     let d = adds k c w ok in
     stamped c (called k c).clock d.microseconds (stamps k c) a n (of_length d.length (moves k c ok)) d.runs t q

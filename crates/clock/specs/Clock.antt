@@ -1,15 +1,9 @@
 -- The guest clock: each call as a function from a clock, and its argument, to the answer and the clock after it.
 -- A tick is 100 ns. Numbers have no upper end here; where a word's end matters, it is written out.
-use Rattle.std.specs.Prelude.{ℕ, ◌+◌, ◌-◌, ◌*◌, ◌/◌, ◌%◌, ◌^◌, Bool, true, false, cond, ◌&&◌, ℤ, pos, negsuc, ◌==◌, int_le, nat_le, nat_lt}
+use Rattle.std.specs.Prelude.{ℕ, ◌+◌, ◌-◌, ◌*◌, ◌/◌, ◌%◌, ◌^◌, Bool, true, false, cond, ◌&&◌, ℤ, pos, negsuc, ◌==◌, int_le, nat_le, nat_lt, Option, Some, None, Result, Ok, Err, ⊤}
 use Rattle.clock.specs.declared.GuestClock.{GuestClock}
 use Rattle.clock.specs.declared.ClockError.{ClockError}
 use Rattle.clock.specs.declared.ClockError.TheVariants.{InvalidConfiguration, Overflow, OutOfForm}
-use Rattle.clock.specs.declared.Done.{Done}
-use Rattle.clock.specs.declared.Done.TheVariants as answer
-use Rattle.clock.specs.declared.Reading.{Reading}
-use Rattle.clock.specs.declared.Reading.TheVariants as reading
-use Rattle.clock.specs.declared.Created.{Created}
-use Rattle.clock.specs.declared.Created.TheVariants as created-as
 use Rattle.clock.specs.declared.Outcome.{Outcome}
 
 -- Form
@@ -35,25 +29,30 @@ in_form c =
 -- Answers
 
 abbrev pub refused : GuestClock → ClockError → Outcome
-refused c why = record { answer = answer.Err why; clock = c }
+refused c why = record { answer = Err why; clock = c }
 
 abbrev pub done : GuestClock → Outcome
-done c = record { answer = answer.Ok; clock = c }
+done c = record { answer = Ok tt; clock = c }
 
-abbrev pub is_ok : Done → Bool
-is_ok answer.Ok = true
-is_ok (answer.Err why) = false
+abbrev pub is_ok : Result ⊤ ClockError → Bool
+is_ok (Ok done) = true
+is_ok (Err why) = false
 
 -- the clock `after` where all of it fits, else 26 and the clock `c`
 abbrev pub if_fits : Bool → GuestClock → GuestClock → Outcome
 if_fits fits after c = cond fits (done after) (refused c Overflow)
 
+-- the same of the clock after, where there is one
+abbrev pub fitted : Option GuestClock → GuestClock → Outcome
+fitted (Some after) c = done after
+fitted None c = refused c Overflow
+
 -- 27 before all else
 unfoldable pub when_in_form : GuestClock → Outcome → Outcome
 when_in_form c o = cond (in_form c) o (refused c OutOfForm)
 
-unfoldable pub read_in_form : GuestClock → Reading → Reading
-read_in_form c r = cond (in_form c) r (reading.Err OutOfForm)
+unfoldable pub read_in_form : GuestClock → Result ℕ ClockError → Result ℕ ClockError
+read_in_form c r = cond (in_form c) r (Err OutOfForm)
 
 -- `new`
 
@@ -69,9 +68,9 @@ started utc uptime offset mhz =
       until_flush = 1000;
     }
 
-unfoldable pub created : ℕ → ℕ → ℤ → ℕ → Created
+unfoldable pub created : ℕ → ℕ → ℤ → ℕ → Result GuestClock ClockError
 created utc uptime offset mhz =
-    cond (in_range uptime offset mhz) (created-as.Ok (started utc uptime offset mhz)) (created-as.Err InvalidConfiguration)
+    cond (in_range uptime offset mhz) (Ok (started utc uptime offset mhz)) (Err InvalidConfiguration)
 
 -- Advancing
 
@@ -166,20 +165,20 @@ abbrev pub ticks_of : GuestClock → ℕ
 ticks_of c = c.uptime_ms * 10000 + c.submillisecond_100ns
 
 -- the ticks, where they fit 64 bits
-unfoldable pub qpc : GuestClock → Reading
-qpc c = read_in_form c (cond (nat_lt (ticks_of c) (2 ^ 64)) (reading.Ok (ticks_of c)) (reading.Err Overflow))
+unfoldable pub qpc : GuestClock → Result ℕ ClockError
+qpc c = read_in_form c (cond (nat_lt (ticks_of c) (2 ^ 64)) (Ok (ticks_of c)) (Err Overflow))
 
-unfoldable pub tick64 : GuestClock → Reading
-tick64 c = read_in_form c (reading.Ok (c.uptime_ms / 16 * 16))
+unfoldable pub tick64 : GuestClock → Result ℕ ClockError
+tick64 c = read_in_form c (Ok (c.uptime_ms / 16 * 16))
 
 -- ticks × MHz div 10, then pending cycles, both modulo 2^64
 abbrev pub cycles_at : GuestClock → ℕ → ℕ
 cycles_at c ticks = (ticks * c.base_mhz / 10 % 2 ^ 64 + c.pending_cycles) % 2 ^ 64
 
 -- a reading made of another
-unfoldable pub on_reading : (ℕ → ℕ) → Reading → Reading
-on_reading f (reading.Ok n) = reading.Ok (f n)
-on_reading f (reading.Err why) = reading.Err why
+unfoldable pub on_reading : (ℕ → ℕ) → Result ℕ ClockError → Result ℕ ClockError
+on_reading f (Ok n) = Ok (f n)
+on_reading f (Err why) = Err why
 
-unfoldable pub tsc : GuestClock → Reading
+unfoldable pub tsc : GuestClock → Result ℕ ClockError
 tsc c = on_reading (cycles_at c) (qpc c)

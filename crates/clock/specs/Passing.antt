@@ -1,9 +1,7 @@
 -- How time passes on a clock, by what its reads answer before a call and after it.
-use Rattle.std.specs.Prelude.{◌≡◌, ℕ, ◌+◌, ◌*◌, ◌/◌, ◌^◌, ◌<◌, ◌≤◌, false, cond, ◌==◌}
+use Rattle.std.specs.Prelude.{◌≡◌, ℕ, ◌+◌, ◌*◌, ◌/◌, ◌^◌, ◌<◌, ◌≤◌, false, cond, ◌==◌, Ok, Err}
 use Rattle.clock.specs.declared.GuestClock.{GuestClock}
 use Rattle.clock.specs.declared.ClockError.TheVariants.{Overflow}
-use Rattle.clock.specs.declared.Done.TheVariants as answer
-use Rattle.clock.specs.declared.Reading.TheVariants as reading
 use Rattle.clock.specs.Clock.{in_form, flush_cycles, with_cycles, qpc}
 use Rattle.clock.specs.Calls.{Advance100ns, AdvanceMicroseconds, AdvanceMilliseconds, FlushCycles, Observe, Call, Instruction, Try}
 
@@ -30,9 +28,9 @@ stamps (Try Observe) c = c.base_mhz
 
 -- `after` is `ticks` later than `c`: `qpc` reads so many more, or is refused by 26 where that passes a word, and the wall clock has moved with it
 pub record Passed (c after : GuestClock) (ticks : ℕ) : Type 0 where
-  pub reads : (before : ℕ) → qpc c ≡ reading.Ok before → before + ticks < 2 ^ 64 → qpc after ≡ reading.Ok (before + ticks)
-  pub passes : (before : ℕ) → qpc c ≡ reading.Ok before → 2 ^ 64 ≤ before + ticks → qpc after ≡ reading.Err Overflow
-  pub stays_past : qpc c ≡ reading.Err Overflow → qpc after ≡ reading.Err Overflow
+  pub reads : (before : ℕ) → qpc c ≡ Ok before → before + ticks < 2 ^ 64 → qpc after ≡ Ok (before + ticks)
+  pub passes : (before : ℕ) → qpc c ≡ Ok before → 2 ^ 64 ≤ before + ticks → qpc after ≡ Err Overflow
+  pub stays_past : qpc c ≡ Err Overflow → qpc after ≡ Err Overflow
   pub utc : after.utc_filetime ≡ c.utc_filetime + ticks
 
 -- what an instruction that is refused leaves: the clock as it was, unless the flush alone is refused. Then its 100 cycles are added,
@@ -40,5 +38,5 @@ pub record Passed (c after : GuestClock) (ticks : ℕ) : Type 0 where
 pub data Kept (c after : GuestClock) : Type 0 where
   out_of_form : in_form c ≡ false → after ≡ c → Kept c after
   cycles_pass : 2 ^ 64 ≤ c.pending_cycles + 100 → after ≡ c → Kept c after
-  flush_passes : c.until_flush ≡ 1 → (flush_cycles after).answer ≡ answer.Err Overflow
+  flush_passes : c.until_flush ≡ 1 → (flush_cycles after).answer ≡ Err Overflow
       → after ≡ with_cycles c (c.pending_cycles + 100) 1000 → Kept c after

@@ -1,10 +1,7 @@
 -- Bench samples P7 and P8 of document 01, as tests that compute.
-use Rattle.std.specs.Prelude.{ℕ, zero, suc, ◌-◌, ◌^◌, Bool, false, ◌&&◌, pos, ◌==◌}
+use Rattle.std.specs.Prelude.{ℕ, zero, suc, ◌-◌, ◌^◌, Bool, false, ◌&&◌, pos, ◌==◌, Result, Ok, Err}
 use Rattle.clock.specs.declared.GuestClock.{GuestClock}
-use Rattle.clock.specs.declared.Reading.{Reading}
-use Rattle.clock.specs.declared.Reading.TheVariants as reading
-use Rattle.clock.specs.declared.Created.{Created}
-use Rattle.clock.specs.declared.Created.TheVariants as created-as
+use Rattle.clock.specs.declared.ClockError.{ClockError}
 use Rattle.clock.specs.Clock.{created, instruction, most_uptime, qpc}
 use Rattle.clock.specs.Numbers.{error_number}
 
@@ -16,9 +13,9 @@ unfoldable pub stands : ℕ → ℕ → ℕ → GuestClock → Bool
 stands uptime ticks pending c =
     (c.uptime_ms == uptime) && (c.submillisecond_100ns == ticks && c.pending_cycles == pending)
 
-unfoldable pub of : (GuestClock → Bool) → Created → Bool
-of test (created-as.Ok c) = test c
-of test (created-as.Err why) = false
+unfoldable pub of : (GuestClock → Bool) → Result GuestClock ClockError → Bool
+of test (Ok c) = test c
+of test (Err why) = false
 
 -- 1000 instructions at 3 MHz from zero
 unfoldable pub p7 : Bool
@@ -36,13 +33,13 @@ at_limit ticks =
       until_flush = 1;
     }
 
-unfoldable pub reads : ℕ → Reading → Bool
-reads n (reading.Ok m) = m == n
-reads n (reading.Err why) = false
+unfoldable pub reads : ℕ → Result ℕ ClockError → Bool
+reads n (Ok m) = m == n
+reads n (Err why) = false
 
-unfoldable pub refuses : ℕ → Reading → Bool
-refuses n (reading.Ok m) = false
-refuses n (reading.Err why) = error_number why == n
+unfoldable pub refuses : ℕ → Result ℕ ClockError → Bool
+refuses n (Ok m) = false
+refuses n (Err why) = error_number why == n
 
 -- the uptime limit with 1615 ticks, and with 1616
 unfoldable pub p8 : Bool

@@ -1,9 +1,10 @@
 // Every call on a clock, by value: the clock goes in, and comes back beside the answer. A clock out of form is refused.
-ghost use Rattle.std.specs.Prelude.{◌≡◌, ◌<◌, true};
+ghost use Rattle.std.specs.Prelude.{◌≡◌, ◌*◌, ◌<◌, ◌&&◌, Option, true, false, SomeIff};
 ghost use Rattle.clock.specs.Clock as spec;
+ghost use Rattle.clock.specs.declared.GuestClock.{GuestClock};
+ghost use Rattle.clock.specs.declared.ClockError.TheVariants.{OutOfForm};
 
-use super::{ClockError, Created, Done, GuestClock, Outcome, Reading};
-use wide::Checked;
+use super::{ClockError, GuestClock, Outcome};
 
 // The longest uptime whose ticks fit 64 bits, in ms.
 pub const MOST_UPTIME_MS: u64 = 1_844_674_407_370_955;
@@ -15,49 +16,39 @@ pub const CYCLES: u64 = 100;
 pub fn offset_in_range(minutes: i32) -> bool
     ensures { result ≡ spec.offset_in_range minutes }
 {
-    if minutes < -840 {
-        return false;
-    }
-    minutes <= 840
+    -840 <= minutes && minutes <= 840
 }
 
 pub fn in_range(uptime_ms: u64, utc_offset_minutes: i32, base_mhz: u32) -> bool
     ensures { result ≡ spec.in_range uptime_ms utc_offset_minutes base_mhz }
 {
-    if base_mhz < 1 {
-        return false;
-    }
-    if 100_000 < base_mhz {
-        return false;
-    }
-    if MOST_UPTIME_MS < uptime_ms {
-        return false;
-    }
-    offset_in_range(utc_offset_minutes)
+    1 <= base_mhz
+        && base_mhz <= 100_000
+        && uptime_ms <= MOST_UPTIME_MS
+        && offset_in_range(utc_offset_minutes)
 }
 
 pub fn in_form(c: GuestClock) -> bool
     ensures { result ≡ spec.in_form c }
 {
-    if 10_000 <= c.submillisecond_100ns {
-        return false;
-    }
-    if c.until_flush < 1 {
-        return false;
-    }
-    if FLUSH_EVERY < c.until_flush {
-        return false;
-    }
-    in_range(c.uptime_ms, c.utc_offset_minutes, c.base_mhz)
+    c.submillisecond_100ns < 10_000
+        && 1 <= c.until_flush
+        && c.until_flush <= FLUSH_EVERY
+        && in_range(c.uptime_ms, c.utc_offset_minutes, c.base_mhz)
 }
 
-pub fn new(utc_filetime: u64, uptime_ms: u64, utc_offset_minutes: i32, base_mhz: u32) -> Created
+pub fn new(
+    utc_filetime: u64,
+    uptime_ms: u64,
+    utc_offset_minutes: i32,
+    base_mhz: u32,
+) -> Result<GuestClock, ClockError>
     ensures { result ≡ spec.created utc_filetime uptime_ms utc_offset_minutes base_mhz }
 {
     if !in_range(uptime_ms, utc_offset_minutes, base_mhz) {
-        return Created::Err(ClockError::InvalidConfiguration);
+        return Err(ClockError::InvalidConfiguration);
     }
-    Created::Ok(GuestClock {
+    Ok(GuestClock {
         utc_filetime,
         uptime_ms,
         submillisecond_100ns: 0,
@@ -72,7 +63,7 @@ fn refused(c: GuestClock, why: ClockError) -> Outcome
     ensures { result ≡ spec.refused c why }
 {
     Outcome {
-        answer: Done::Err(why),
+        answer: Err(why),
         clock: c,
     }
 }
@@ -81,86 +72,83 @@ fn done(c: GuestClock) -> Outcome
     ensures { result ≡ spec.done c }
 {
     Outcome {
-        answer: Done::Ok,
+        answer: Ok(()),
         clock: c,
     }
 }
 
-// Whether `ticks` of 100 ns can be added. No word's ticks make more ms than the longest uptime has.
-fn advances(c: GuestClock, ticks: u64) -> bool
-    ensures { result ≡ spec.advances c ticks }
+// The clock after, or a refusal where there is none.
+fn fitting(c: GuestClock, after: Option<GuestClock>) -> Outcome
+    ensures { result ≡ spec.fitted after c }
 {
-    if u64::MAX - ticks < c.utc_filetime {
-        return false;
+    match after {
+        Some(after) => done(after),
+        None => refused(c, ClockError::Overflow),
     }
-    let part = c.submillisecond_100ns as u64;
-    if u64::MAX - ticks < part {
-        return false;
+}
+
+// A call that is done whole or not at all.
+fn whole<F: FnOnce(GuestClock) -> Option<GuestClock>>(c: GuestClock, call: F) -> Outcome
+    requires { spec.in_form c ≡ true → F.pre call c }
+    ensures out { spec.in_form c ≡ false → result ≡ spec.refused c OutOfForm }
+    ensures ended { spec.in_form c ≡ true → (after : Option GuestClock) × F.post call c after × (result ≡ spec.fitted after c) }
+{
+    if !in_form(c) {
+        return refused(c, ClockError::OutOfForm);
     }
-    c.uptime_ms <= MOST_UPTIME_MS - (part + ticks) / 10_000
+    fitting(c, call(c))
 }
 
 // The clock `ticks` of 100 ns later.
-fn moved(c: GuestClock, ticks: u64) -> GuestClock
-    requires { spec.advances c ticks ≡ true }
-    ensures { result ≡ spec.moved c ticks }
+fn moved(c: GuestClock, ticks: u64) -> Option<GuestClock>
+    ensures { SomeIff result (spec.advances c ticks ≡ true) (spec.moved c ticks) }
 {
-    let fraction = (c.submillisecond_100ns as u64) + ticks;
-    let mut after = c;
-    after.utc_filetime = c.utc_filetime + ticks;
-    after.uptime_ms = c.uptime_ms + fraction / 10_000;
-    after.submillisecond_100ns = (fraction % 10_000) as u32;
-    after
+    let utc_filetime = c.utc_filetime.checked_add(ticks)?;
+    let fraction = (c.submillisecond_100ns as u64).checked_add(ticks)?;
+    let uptime_ms = c.uptime_ms.checked_add(fraction / 10_000)?;
+    if MOST_UPTIME_MS < uptime_ms {
+        return None;
+    }
+    Some(GuestClock {
+        utc_filetime,
+        uptime_ms,
+        submillisecond_100ns: (fraction % 10_000) as u32,
+        ..c
+    })
+}
+
+fn moved_microseconds(c: GuestClock, amount: u64) -> Option<GuestClock>
+    ensures { SomeIff result (spec.advances c (amount * 10) ≡ true) (spec.moved c (amount * 10)) }
+{
+    moved(c, amount.checked_mul(10)?)
 }
 
 fn with_cycles(c: GuestClock, pending_cycles: u64, until_flush: u16) -> GuestClock
     ensures { result ≡ spec.with_cycles c pending_cycles until_flush }
 {
-    let mut after = c;
-    after.pending_cycles = pending_cycles;
-    after.until_flush = until_flush;
-    after
-}
-
-fn advanced(c: GuestClock, ticks: u64) -> Outcome
-    ensures { result ≡ spec.advanced c ticks }
-{
-    if !advances(c, ticks) {
-        return refused(c, ClockError::Overflow);
+    GuestClock {
+        pending_cycles,
+        until_flush,
+        ..c
     }
-    done(moved(c, ticks))
 }
 
-// Microseconds past 2^64 - 1 ticks pass every limit of an advance too.
-fn advanced_microseconds(c: GuestClock, amount: u64) -> Outcome
-    ensures { result ≡ spec.advanced_microseconds c amount }
-{
-    let Checked::Value(ticks) = wide::checked_mul(amount, 10) else {
-        return refused(c, ClockError::Overflow);
-    };
-    advanced(c, ticks)
-}
-
-// Whether the whole microseconds of pending cycles can become time.
-fn flushes(c: GuestClock) -> bool
+// The whole microseconds of pending cycles become time, and the remainder stays pending.
+fn flushed(c: GuestClock) -> Option<GuestClock>
     requires { 0 < c.base_mhz }
-    ensures { result ≡ spec.flushes c }
-{
-    let Checked::Value(ticks) = wide::checked_mul(c.pending_cycles / (c.base_mhz as u64), 10) else {
-        return false;
-    };
-    advances(c, ticks)
-}
-
-// They become time, and the remainder stays pending.
-fn flushed(c: GuestClock) -> GuestClock
-    requires { (0 < c.base_mhz) × (spec.flushes c ≡ true) }
-    ensures { result ≡ spec.flushed c }
+    ensures { SomeIff result (spec.flushes c ≡ true) (spec.flushed c) }
 {
     let mhz = c.base_mhz as u64;
-    let ticks = c.pending_cycles / mhz * 10;
-    let rest = c.pending_cycles % mhz;
-    with_cycles(moved(c, ticks), rest, c.until_flush)
+    let ticks = (c.pending_cycles / mhz).checked_mul(10)?;
+    let after = moved(c, ticks)?;
+    Some(with_cycles(after, c.pending_cycles % mhz, c.until_flush))
+}
+
+fn observed(c: GuestClock) -> Option<GuestClock>
+    requires { 0 < c.base_mhz }
+    ensures { SomeIff result ((spec.flushes c && spec.advances (spec.flushed c) 10) ≡ true) (spec.moved (spec.flushed c) 10) }
+{
+    moved(flushed(c)?, 10)
 }
 
 // 100 modeled cycles an instruction. Where the flush overflows they stay counted, and the countdown starts anew.
@@ -170,16 +158,12 @@ pub fn instruction(c: GuestClock) -> Outcome
     if !in_form(c) {
         return refused(c, ClockError::OutOfForm);
     }
-    if u64::MAX - CYCLES < c.pending_cycles {
+    let Some(pending) = c.pending_cycles.checked_add(CYCLES) else {
         return refused(c, ClockError::Overflow);
-    }
-    let pending = c.pending_cycles + CYCLES;
+    };
     if c.until_flush == 1 {
         let counted = with_cycles(c, pending, FLUSH_EVERY);
-        if !flushes(counted) {
-            return refused(counted, ClockError::Overflow);
-        }
-        return done(flushed(counted));
+        return fitting(counted, flushed(counted));
     }
     done(with_cycles(c, pending, c.until_flush - 1))
 }
@@ -187,94 +171,62 @@ pub fn instruction(c: GuestClock) -> Outcome
 pub fn advance_100ns(c: GuestClock, ticks: u64) -> Outcome
     ensures { result ≡ spec.advance100ns c ticks }
 {
-    if !in_form(c) {
-        return refused(c, ClockError::OutOfForm);
-    }
-    advanced(c, ticks)
+    whole(c, |c| moved(c, ticks))
 }
 
 pub fn advance_microseconds(c: GuestClock, amount: u64) -> Outcome
     ensures { result ≡ spec.advance_microseconds c amount }
 {
-    if !in_form(c) {
-        return refused(c, ClockError::OutOfForm);
-    }
-    advanced_microseconds(c, amount)
+    whole(c, |c| moved_microseconds(c, amount))
 }
 
 pub fn advance_milliseconds(c: GuestClock, amount: u32) -> Outcome
     ensures { result ≡ spec.advance_milliseconds c amount }
 {
-    if !in_form(c) {
-        return refused(c, ClockError::OutOfForm);
-    }
-    advanced_microseconds(c, (amount as u64) * 1000)
+    whole(c, |c| moved(c, (amount as u64) * 10_000))
 }
 
 pub fn flush_cycles(c: GuestClock) -> Outcome
     ensures { result ≡ spec.flush_cycles c }
 {
-    if !in_form(c) {
-        return refused(c, ClockError::OutOfForm);
-    }
-    if !flushes(c) {
-        return refused(c, ClockError::Overflow);
-    }
-    done(flushed(c))
+    whole(c, flushed)
 }
 
 // A flush, and a microsecond more; both or neither.
 pub fn observe(c: GuestClock) -> Outcome
     ensures { result ≡ spec.observe c }
 {
-    if !in_form(c) {
-        return refused(c, ClockError::OutOfForm);
-    }
-    if !flushes(c) {
-        return refused(c, ClockError::Overflow);
-    }
-    let flush = flushed(c);
-    if !advances(flush, 10) {
-        return refused(c, ClockError::Overflow);
-    }
-    done(moved(flush, 10))
+    whole(c, observed)
 }
 
-pub fn qpc(c: GuestClock) -> Reading
+pub fn qpc(c: GuestClock) -> Result<u64, ClockError>
     ensures { result ≡ spec.qpc c }
 {
     if !in_form(c) {
-        return Reading::Err(ClockError::OutOfForm);
+        return Err(ClockError::OutOfForm);
     }
-    let whole = c.uptime_ms * 10_000;
-    let part = c.submillisecond_100ns as u64;
-    if u64::MAX - part < whole {
-        return Reading::Err(ClockError::Overflow);
-    }
-    Reading::Ok(whole + part)
+    (c.uptime_ms * 10_000)
+        .checked_add(c.submillisecond_100ns as u64)
+        .ok_or(ClockError::Overflow)
 }
 
-pub fn tick64(c: GuestClock) -> Reading
+pub fn tick64(c: GuestClock) -> Result<u64, ClockError>
     ensures { result ≡ spec.tick64 c }
 {
     if !in_form(c) {
-        return Reading::Err(ClockError::OutOfForm);
+        return Err(ClockError::OutOfForm);
     }
-    Reading::Ok(c.uptime_ms / 16 * 16)
+    Ok(c.uptime_ms / 16 * 16)
 }
 
 fn cycles_at(c: GuestClock, ticks: u64) -> u64
     ensures { result ≡ spec.cycles_at c ticks }
 {
-    let whole = wide::wrapping_mul_tenth(ticks, c.base_mhz as u64);
-    std::num::wrapping_add_u64(whole, c.pending_cycles)
+    wide::wrapping_mul_tenth(ticks, c.base_mhz as u64).wrapping_add(c.pending_cycles)
 }
 
-pub fn tsc(c: GuestClock) -> Reading
+pub fn tsc(c: GuestClock) -> Result<u64, ClockError>
     ensures { result ≡ spec.tsc c }
 {
-    match qpc(c) {
-        Reading::Err(why) => Reading::Err(why),
-        Reading::Ok(ticks) => Reading::Ok(cycles_at(c, ticks)),
-    }
+    Ok(cycles_at(c, qpc(c)?))
 }

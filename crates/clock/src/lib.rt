@@ -9,7 +9,7 @@ ghost use Rattle.clock.specs.Clock as spec;
 pub mod by_value;
 
 #[repr(C)]
-#[derive(Clone, Copy)]
+#[derive(Clone, Copy, Debug, PartialEq, Eq)]
 pub struct GuestClock {
     pub utc_filetime: u64,
     pub uptime_ms: u64,
@@ -21,102 +21,95 @@ pub struct GuestClock {
 }
 
 // Why a call is refused.
-#[derive(Clone, Copy)]
+#[derive(Clone, Copy, Debug, PartialEq, Eq)]
 pub enum ClockError {
     InvalidConfiguration,
     Overflow,
     OutOfForm,
 }
 
-// What a call that changes the clock answers.
-#[derive(Clone, Copy)]
-pub enum Done {
-    Ok,
-    Err(ClockError),
+impl From<ClockError> for u64 {
+    ghost use Rattle.std.specs.Prelude.{◌≡◌};
+    ghost use Rattle.clock.specs.Numbers.{error_number};
+
+    ghost from_gives = { λ why number. number ≡ error_number why };
+
+    fn from(why: ClockError) -> u64 {
+        match why {
+            ClockError::InvalidConfiguration => 25,
+            ClockError::Overflow => 26,
+            ClockError::OutOfForm => 27,
+        }
+    }
 }
 
-// What a call that reads the clock answers.
-#[derive(Clone, Copy)]
-pub enum Reading {
-    Ok(u64),
-    Err(ClockError),
-}
-
-#[derive(Clone, Copy)]
-pub enum Created {
-    Ok(GuestClock),
-    Err(ClockError),
-}
-
-// An answer, and the clock after the call.
-#[derive(Clone, Copy)]
+// An answer, and the clock after the call: a refused `instruction` changes it too.
+#[derive(Clone, Copy, Debug, PartialEq, Eq)]
 pub struct Outcome {
-    pub answer: Done,
+    pub answer: Result<(), ClockError>,
     pub clock: GuestClock,
 }
 
 impl GuestClock {
-    pub fn instruction(&mut self) -> Done
+    // A call by value, in place.
+    fn change<F: FnOnce(GuestClock) -> Outcome>(&mut self, call: F) -> Result<(), ClockError>
+        requires { F.pre call self.old }
+        ensures { F.post call self.old (record { answer = result; clock = self.new }) }
+    {
+        let after = call(*self);
+        *self = after.clock;
+        after.answer
+    }
+
+    pub fn instruction(&mut self) -> Result<(), ClockError>
         ensures { (result ≡ (spec.instruction self.old).answer) × (self.new ≡ (spec.instruction self.old).clock) }
     {
-        let after = by_value::instruction(*self);
-        *self = after.clock;
-        after.answer
+        self.change(by_value::instruction)
     }
 
-    pub fn advance_100ns(&mut self, ticks: u64) -> Done
+    pub fn advance_100ns(&mut self, ticks: u64) -> Result<(), ClockError>
         ensures { (result ≡ (spec.advance100ns self.old ticks).answer) × (self.new ≡ (spec.advance100ns self.old ticks).clock) }
     {
-        let after = by_value::advance_100ns(*self, ticks);
-        *self = after.clock;
-        after.answer
+        self.change(|c| by_value::advance_100ns(c, ticks))
     }
 
-    pub fn advance_microseconds(&mut self, amount: u64) -> Done
+    pub fn advance_microseconds(&mut self, amount: u64) -> Result<(), ClockError>
         ensures { (result ≡ (spec.advance_microseconds self.old amount).answer) × (self.new ≡ (spec.advance_microseconds self.old amount).clock) }
     {
-        let after = by_value::advance_microseconds(*self, amount);
-        *self = after.clock;
-        after.answer
+        self.change(|c| by_value::advance_microseconds(c, amount))
     }
 
-    pub fn advance_milliseconds(&mut self, amount: u32) -> Done
+    pub fn advance_milliseconds(&mut self, amount: u32) -> Result<(), ClockError>
         ensures { (result ≡ (spec.advance_milliseconds self.old amount).answer) × (self.new ≡ (spec.advance_milliseconds self.old amount).clock) }
     {
-        let after = by_value::advance_milliseconds(*self, amount);
-        *self = after.clock;
-        after.answer
+        self.change(|c| by_value::advance_milliseconds(c, amount))
     }
 
-    pub fn flush_cycles(&mut self) -> Done
+    pub fn flush_cycles(&mut self) -> Result<(), ClockError>
         ensures { (result ≡ (spec.flush_cycles self.old).answer) × (self.new ≡ (spec.flush_cycles self.old).clock) }
     {
-        let after = by_value::flush_cycles(*self);
-        *self = after.clock;
-        after.answer
+        self.change(by_value::flush_cycles)
     }
 
-    pub fn observe(&mut self) -> Done
+    pub fn observe(&mut self) -> Result<(), ClockError>
         ensures { (result ≡ (spec.observe self.old).answer) × (self.new ≡ (spec.observe self.old).clock) }
     {
-        let after = by_value::observe(*self);
-        *self = after.clock;
-        after.answer
+        self.change(by_value::observe)
     }
 
-    pub fn qpc(&self) -> Reading
+    pub fn qpc(&self) -> Result<u64, ClockError>
         ensures { result ≡ spec.qpc self.now }
     {
         by_value::qpc(*self)
     }
 
-    pub fn tick64(&self) -> Reading
+    pub fn tick64(&self) -> Result<u64, ClockError>
         ensures { result ≡ spec.tick64 self.now }
     {
         by_value::tick64(*self)
     }
 
-    pub fn tsc(&self) -> Reading
+    pub fn tsc(&self) -> Result<u64, ClockError>
         ensures { result ≡ spec.tsc self.now }
     {
         by_value::tsc(*self)

@@ -1,11 +1,9 @@
-use Rattle.clock.specs.Clock.{advance_microseconds}
-use Rattle.clock.proofs.FormLaws.{kept_out, let-in}
+use Rattle.std.proofs.Common.{◌∙◌, rules}
+use Rattle.clock.specs.Clock.{advance_microseconds, advanced_microseconds, advanced}
+use Rattle.clock.proofs.FormLaws.{ended-is}
+use Rattle.clock.proofs.AdvanceLaws.{fitted-is}
 use Rattle.clock.proofs.by_value.advance_microseconds.Goals as goal
 
-pub returns-then-not-in_form : goal.returns-then-not-in_form
-unfolding advance_microseconds
-returns-then-not-in_form c = kept_out _ c.in_form.ensures _ c.if-not-in_form.true c.refused.ensures
-
 pub returns : goal.returns
-unfolding advance_microseconds
-returns c = let-in _ c.in_form.ensures c.if-not-in_form.false c.advanced_microseconds.ensures
+unfolding advance_microseconds advanced_microseconds advanced
+returns c = ended-is _ c.whole.ensures.out (λ e. let (after, post, is) = c.whole.ensures.ended e in is ∙ fitted-is _ _ _ after (search rules))

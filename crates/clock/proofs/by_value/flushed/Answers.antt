@@ -1,16 +1,16 @@
-use Rattle.std.proofs.Common.{arith}
+use Rattle.std.proofs.Common.{arith, ◌∙◌}
 use Rattle.clock.specs.Clock.{flushes, flush_ticks, flushed}
 use Rattle.clock.proofs.AdvanceLaws.{advance-facts}
 use Rattle.clock.proofs.by_value.flushed.Goals as goal
 
-pub overflow_mul-ticks : goal.overflow_mul-ticks
+pub returns-in_err-ticks : goal.returns-in_err-ticks
 unfolding flushes flush_ticks
-overflow_mul-ticks c = omega (arith, (advance-facts _ _ c.requires.1).utc-fits)
+returns-in_err-ticks c = rw c.from_residual.ensures (λ e. c.in_err-ticks.ensures (omega (arith, (advance-facts _ _ e).utc-fits)))
 
-pub moved-requires : goal.moved-requires
+pub returns-in_err-after : goal.returns-in_err-after
 unfolding flushes flush_ticks
-moved-requires c = c.requires.1
+returns-in_err-after c = rw c.from_residual-in_err-after.ensures (simp (c.in_ok-ticks.ensures.1) at (c.in_err-after.ensures))
 
 pub returns : goal.returns
-unfolding flushed flush_ticks
-returns c = simp (c.with_cycles.ensures, c.moved.ensures)
+unfolding flushes flushed flush_ticks
+returns c = (simp c.in_ok-ticks.ensures.1 at c.in_ok-after.ensures.0, c.with_cycles.ensures ∙ simp (c.in_ok-after.ensures.1, c.in_ok-ticks.ensures.1))
