@@ -1,12 +1,12 @@
 -- The clock that a call leaves in its words, and so what the reads answer behind it; and the words that a refused instruction leaves.
-use Rattle.std.proofs.Common.{◌≡◌, ℕ, ◌+◌, ◌-◌, ◌*◌, ◌^◌, Bool, true, false, cond, ◌&&◌, eqb, ltb, ◌⊎◌, List, get_or, set}
+use Rattle.std.proofs.Common.{◌≡◌, ℕ, ◌+◌, ◌-◌, ◌*◌, ◌^◌, Bool, true, false, cond, ◌&&◌, eqb, ltb, ◌⊎◌, List, get_or, set, Result}
 use mathlib.Core.Path.{refl, sym, ap, ◌∙◌}
 use mathlib.Core.Logic.{inl, inr}
 use native.Mathlib.Omega.{arith}
 use lib.Seq.{set-get_or}
 use Rattle.clock.specs.declared.GuestClock.{GuestClock}
 use Rattle.clock.specs.declared.ClockError.TheVariants.{Overflow}
-use Rattle.clock.specs.declared.Reading.{Reading}
+use Rattle.clock.specs.declared.ClockError.{ClockError}
 use Rattle.clock.specs.declared.Outcome.{Outcome}
 use Rattle.clock.specs.Numbers.{refusal_number}
 use Rattle.clock.specs.Clock.{in_form, refused, done, if_fits, when_in_form, advances, advanced, advanced_microseconds, advance100ns, advance_microseconds, advance_milliseconds}
@@ -56,7 +56,7 @@ module _ (k : Call) (w : List ℕ) (e : in_form (clock_at w) ≡ true) where
   clock-left = simp (in-form-in k (clock_at w) e) (read_back w (called k (clock_at w)).clock (long-enough w e) (form-kept k _ e))
 
   -- so a read behind the call answers what it answers of that clock
-  pub reads-behind : (read : GuestClock → Reading) (out : List ℕ) → read_into read (changed (called k) w).words out ≡ answered out (read (called k (clock_at w)).clock)
+  pub reads-behind : (read : GuestClock → Result ℕ ClockError) (out : List ℕ) → read_into read (changed (called k) w).words out ≡ answered out (read (called k (clock_at w)).clock)
   unfolding read_into
   reads-behind read out = simp clock-left
 

@@ -1,20 +1,16 @@
 -- Words in form are those of their clock. So a refused call other than `instruction` changes no word, and calls keep the words in form.
-use Rattle.std.proofs.Common.{◌≡◌, ℕ, ◌<◌, ◌≤◌, Bool, true, false, cond, eqb, ltb, leb, List, [], ◌∷◌, length, get_or, ℤ}
+use Rattle.std.proofs.Common.{◌≡◌, ℕ, ◌+◌, ◌<◌, ◌≤◌, Bool, true, false, cond, eqb, ltb, leb, List, [], ◌∷◌, length, get_or, ℤ, Result, Ok, Err, OkIff}
+use Rattle.std.specs.Prelude.{⊤}
+use Rattle.std.specs.Result.{result_unwrap_or}
 use mathlib.Core.Path.{refl, ap, ◌∙◌}
 use native.Mathlib.Omega.{arith}
 use lib.ListN.{get_or-eq_default}
 use lib.Seq.{set-get_or}
 use native.Mathlib.Decide.{dec_lt}
-use borrow.Author.Tests.{le-leb, ltb-false}
+use borrow.Author.Tests.{le-leb, lt-leb, ltb-false}
 use Rattle.clock.specs.declared.GuestClock.{GuestClock}
 use Rattle.clock.specs.declared.ClockError.{ClockError}
 use Rattle.clock.specs.declared.ClockError.TheVariants.{InvalidConfiguration, Overflow, OutOfForm}
-use Rattle.clock.specs.declared.Done.{Done}
-use Rattle.clock.specs.declared.Done.TheVariants as done
-use Rattle.clock.specs.declared.Created.{Created}
-use Rattle.clock.specs.declared.Created.TheVariants as created-as
-use Rattle.clock.specs.declared.Reading.{Reading}
-use Rattle.clock.specs.declared.Reading.TheVariants as reading
 use Rattle.clock.specs.Numbers.{error_number, refusal_number}
 use Rattle.clock.specs.Clock.{in_form, created, is_ok, when_in_form, advance100ns, advance_microseconds, advance_milliseconds, flush_cycles, observe}
 use Rattle.clock.specs.Calls.{Atomic, Advance100ns, AdvanceMicroseconds, AdvanceMilliseconds, FlushCycles, Observe, tried, Call, called}
@@ -22,6 +18,12 @@ use Rattle.clock.proofs.FormLaws.{form-facts}
 use Rattle.clock.proofs.ClockLaws.{refused-unchanged, new-in-form, form-kept}
 use Rattle.clock_words.specs.ClockWords.{fitted, offset_at, offset_word, clock_at, put_clock, returned, opened, ended, changed, placed, answered, read_into}
 use Rattle.clock_words.proofs.OffsetLaws.{word-of-offset, offset-of-word}
+
+-- a conversion that a value out of form stands in for
+pub converted-is : {E : Type 0} (most word other : ℕ) (r : Result ℕ E) → OkIff r (word < most + 1) word → result_unwrap_or r other ≡ fitted most word other
+unfolding fitted
+converted-is most word other (Ok found) h = simp (le-leb word most (omega (arith, h.0)), h.1)
+converted-is most word other (Err why) h = simp (lt-leb word most (omega (arith, h)))
 
 pub fitted-word : (most word other : ℕ) → (fitted most word other ≡ other → ⊥) → fitted most word other ≡ word
 unfolding fitted
@@ -41,9 +43,9 @@ same-words w e =
     let countdown : fitted 65535 (get_or w 6 0) 0 ≡ get_or w 6 0 = fitted-word _ _ _ (λ q. omega arith) in
     simp (ticks, offset, mhz, countdown, set-get_or)
 
-pub not-ok : (a : Done) → (refusal_number a ≡ 0 → ⊥) → is_ok a ≡ false
-not-ok done.Ok n = absurd (n refl)
-not-ok (done.Err why) n = refl
+pub not-ok : (a : Result ⊤ ClockError) → (refusal_number a ≡ 0 → ⊥) → is_ok a ≡ false
+not-ok (Ok done) n = absurd (n refl)
+not-ok (Err why) n = refl
 
 out_of_form : (k : Atomic) (c : GuestClock) → in_form c ≡ false → refusal_number (tried k c).answer ≡ 27
 unfolding tried advance100ns advance_microseconds advance_milliseconds flush_cycles observe when_in_form
@@ -67,23 +69,23 @@ refused-same k w n = go (in_form (clock_at w)) refl
         simp (ap (put_clock w) unchanged ∙ same-words w e) (either_way (eqb (refusal_number (tried k (clock_at w)).answer) 27) w)
     go false e = simp (out_of_form k (clock_at w) e)
 
-pub new-refused-same : (w : List ℕ) (r : Created) → ((opened w r).number ≡ 0 → ⊥) → (opened w r).words ≡ w
+pub new-refused-same : (w : List ℕ) (r : Result GuestClock ClockError) → ((opened w r).number ≡ 0 → ⊥) → (opened w r).words ≡ w
 unfolding opened
-new-refused-same w (created-as.Err why) n = refl
-new-refused-same w (created-as.Ok c) n = go (ltb (length w) 7) n
+new-refused-same w (Err why) n = refl
+new-refused-same w (Ok c) n = go (ltb (length w) 7) n
   where
     go : (b : Bool) → ((cond b (returned 27 w) (returned 0 (put_clock w c))).number ≡ 0 → ⊥) → (cond b (returned 27 w) (returned 0 (put_clock w c))).words ≡ w
     go true n = refl
     go false n = absurd (n refl)
 
-pub read-refused-same : (call : GuestClock → Reading) (w out : List ℕ) → ((read_into call w out).number ≡ 0 → ⊥) → (read_into call w out).words ≡ out
+pub read-refused-same : (call : GuestClock → Result ℕ ClockError) (w out : List ℕ) → ((read_into call w out).number ≡ 0 → ⊥) → (read_into call w out).words ≡ out
 unfolding read_into answered placed
 read-refused-same call w out = go (ltb (length out) 1) (call (clock_at w))
   where
-    go : (b : Bool) (r : Reading) → ((cond b (returned 27 out) (placed out r)).number ≡ 0 → ⊥) → (cond b (returned 27 out) (placed out r)).words ≡ out
+    go : (b : Bool) (r : Result ℕ ClockError) → ((cond b (returned 27 out) (placed out r)).number ≡ 0 → ⊥) → (cond b (returned 27 out) (placed out r)).words ≡ out
     go true r n = refl
-    go false (reading.Ok value) n = absurd (n refl)
-    go false (reading.Err why) n = refl
+    go false (Ok value) n = absurd (n refl)
+    go false (Err why) n = refl
 
 -- Form
 
@@ -149,6 +151,6 @@ new-form w utc uptime offset mhz = go (created utc uptime offset mhz) refl
     put c e true t z = absurd (omega arith)
     put c e false t z = ap in_form (read_back w c (ltb-false _ _ t) e) ∙ e
 
-    go : (r : Created) → created utc uptime offset mhz ≡ r → (opened w r).number ≡ 0 → in_form (clock_at (opened w r).words) ≡ true
-    go (created-as.Err why) made z = absurd (error-some why z)
-    go (created-as.Ok c) made z = put c (new-in-form utc uptime offset mhz c made) (ltb (length w) 7) refl z
+    go : (r : Result GuestClock ClockError) → created utc uptime offset mhz ≡ r → (opened w r).number ≡ 0 → in_form (clock_at (opened w r).words) ≡ true
+    go (Err why) made z = absurd (error-some why z)
+    go (Ok c) made z = put c (new-in-form utc uptime offset mhz c made) (ltb (length w) 7) refl z

@@ -1,11 +1,8 @@
 -- A clock in seven words, and what a call answers and leaves behind.
-use Rattle.std.specs.Prelude.{ℕ, ◌+◌, ◌-◌, cond, List, length, set, ℤ, pos, negsuc, ◌-ℤ◌, ◌==◌, nat_le, nat_lt, slice_index, slice_set}
+use Rattle.std.specs.Prelude.{ℕ, ◌+◌, ◌-◌, cond, List, length, set, ℤ, pos, negsuc, ◌-ℤ◌, ◌==◌, nat_le, nat_lt, slice_index, slice_set, Result, Ok, Err}
 use Rattle.clock.specs.declared.GuestClock.{GuestClock}
 use Rattle.clock.specs.declared.Outcome.{Outcome}
-use Rattle.clock.specs.declared.Reading.{Reading}
-use Rattle.clock.specs.declared.Reading.TheVariants as reading
-use Rattle.clock.specs.declared.Created.{Created}
-use Rattle.clock.specs.declared.Created.TheVariants as created-as
+use Rattle.clock.specs.declared.ClockError.{ClockError}
 use Rattle.clock.specs.Clock.{offset_in_range}
 use Rattle.clock.specs.Numbers.{error_number, refusal_number}
 
@@ -60,9 +57,9 @@ abbrev pub returned : ℕ → List ℕ → Returned
 returned n w = record { number = n; words = w }
 
 -- `new`: 25, then 27 for too few words
-unfoldable pub opened : List ℕ → Created → Returned
-opened w (created-as.Err why) = returned (error_number why) w
-opened w (created-as.Ok c) = cond (nat_lt (length w) 7) (returned 27 w) (returned 0 (put_clock w c))
+unfoldable pub opened : List ℕ → Result GuestClock ClockError → Returned
+opened w (Err why) = returned (error_number why) w
+opened w (Ok c) = cond (nat_lt (length w) 7) (returned 27 w) (returned 0 (put_clock w c))
 
 -- the words after a call that changes the clock; those out of form, 27, stay as they are
 unfoldable pub ended : List ℕ → Outcome → Returned
@@ -71,13 +68,13 @@ ended w o = returned (refusal_number o.answer) (cond (refusal_number o.answer ==
 unfoldable pub changed : (GuestClock → Outcome) → List ℕ → Returned
 changed call w = ended w (call (clock_at w))
 
-unfoldable pub placed : List ℕ → Reading → Returned
-placed out (reading.Ok value) = returned 0 (slice_set out 0 value)
-placed out (reading.Err why) = returned (error_number why) out
+unfoldable pub placed : List ℕ → Result ℕ ClockError → Returned
+placed out (Ok value) = returned 0 (slice_set out 0 value)
+placed out (Err why) = returned (error_number why) out
 
 -- what a read leaves in `out`; 27 where there is no room
-unfoldable pub answered : List ℕ → Reading → Returned
+unfoldable pub answered : List ℕ → Result ℕ ClockError → Returned
 answered out r = cond (nat_lt (length out) 1) (returned 27 out) (placed out r)
 
-unfoldable pub read_into : (GuestClock → Reading) → List ℕ → List ℕ → Returned
+unfoldable pub read_into : (GuestClock → Result ℕ ClockError) → List ℕ → List ℕ → Returned
 read_into call w out = answered out (call (clock_at w))

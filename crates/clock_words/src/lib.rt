@@ -4,28 +4,13 @@
 #![tactic(auto)]
 
 ghost use Rattle.std.specs.Prelude.{◌≡◌};
-ghost use Rattle.clock.specs.Numbers.{error_number, refusal_number};
-ghost use Rattle.clock_words.specs.ClockWords.{fitted, offset_at, offset_word, clock_at, put_clock, returned, ended, answered};
+ghost use Rattle.clock.specs.declared.Outcome.{Outcome};
+ghost use Rattle.clock.specs.Numbers.{refusal_number};
+ghost use Rattle.clock_words.specs.ClockWords.{offset_at, offset_word, clock_at, put_clock, returned, ended, answered};
 
-use clock::{ClockError, Done, GuestClock, Outcome, Reading, by_value};
+use clock::{ClockError, GuestClock, Outcome, by_value};
 
 pub mod operations;
-
-fn fitted_u32(word: u64, other: u32) -> u32
-    ensures { result ≡ fitted 4294967295 word other }
-{
-    if word <= 4_294_967_295 {
-        word as u32
-    } else {
-        other
-    }
-}
-
-fn fitted_u16(word: u64, other: u16) -> u16
-    ensures { result ≡ fitted 65535 word other }
-{
-    if word <= 65_535 { word as u16 } else { other }
-}
 
 fn offset_at(word: u64) -> i32
     ensures { result ≡ offset_at word }
@@ -52,11 +37,11 @@ fn load(w: &[u64]) -> GuestClock
 {
     let utc_filetime = words::get(w, 0);
     let uptime_ms = words::get(w, 1);
-    let submillisecond_100ns = fitted_u32(words::get(w, 2), 10_000);
+    let submillisecond_100ns = u32::try_from(words::get(w, 2)).unwrap_or(10_000);
     let utc_offset_minutes = offset_at(words::get(w, 3));
-    let base_mhz = fitted_u32(words::get(w, 4), 0);
+    let base_mhz = u32::try_from(words::get(w, 4)).unwrap_or(0);
     let pending_cycles = words::get(w, 5);
-    let until_flush = fitted_u16(words::get(w, 6), 0);
+    let until_flush = u16::try_from(words::get(w, 6)).unwrap_or(0);
     GuestClock {
         utc_filetime,
         uptime_ms,
@@ -84,22 +69,12 @@ fn store(w: &mut [u64], c: GuestClock)
     words::put(w, 6, countdown);
 }
 
-fn error_number(why: ClockError) -> u64
-    ensures { result ≡ error_number why }
-{
-    match why {
-        ClockError::InvalidConfiguration => 25,
-        ClockError::Overflow => 26,
-        ClockError::OutOfForm => 27,
-    }
-}
-
-fn refusal_number(answer: Done) -> u64
+fn refusal_number(answer: Result<(), ClockError>) -> u64
     ensures { result ≡ refusal_number answer }
 {
     match answer {
-        Done::Ok => 0,
-        Done::Err(why) => error_number(why),
+        Ok(()) => 0,
+        Err(why) => u64::from(why),
     }
 }
 
@@ -108,27 +83,33 @@ fn refusal_number(answer: Done) -> u64
 fn end(w: &mut [u64], after: Outcome) -> u64
     ensures { returned result w.new ≡ ended w.old after }
 {
-    let answer = after.answer;
-    let number = refusal_number(answer);
-    if number == 27 {
-        return 27;
+    let number = refusal_number(after.answer);
+    if number != u64::from(ClockError::OutOfForm) {
+        store(w, after.clock);
     }
-    let c = after.clock;
-    store(w, c);
     number
 }
 
-fn answer(out: &mut [u64], reading: Reading) -> u64
+// A call that may change the clock, on its words.
+fn change<F: FnOnce(GuestClock) -> Outcome>(w: &mut [u64], call: F) -> u64
+    requires { F.pre call (clock_at w.old) }
+    ensures { (after : Outcome) × F.post call (clock_at w.old) after × (returned result w.new ≡ ended w.old after) }
+{
+    let after = call(load(w));
+    end(w, after)
+}
+
+fn answer(out: &mut [u64], reading: Result<u64, ClockError>) -> u64
     ensures { returned result out.new ≡ answered out.old reading }
 {
     if out.len() < 1 {
-        return 27;
+        return u64::from(ClockError::OutOfForm);
     }
     match reading {
-        Reading::Err(why) => error_number(why),
-        Reading::Ok(value) => {
+        Ok(value) => {
             words::put(out, 0, value);
             0
         }
+        Err(why) => u64::from(why),
     }
 }

@@ -4,8 +4,8 @@ ghost use Rattle.clock.specs.Clock.{created, instruction, flush_cycles, observe,
 ghost use Rattle.clock.specs.declared.GuestClock.{GuestClock};
 ghost use Rattle.clock_words.specs.ClockWords.{returned, opened, changed, read_into};
 
-use super::{answer, end, error_number, load, store};
-use clock::{Created, by_value};
+use super::{answer, change, load, store};
+use clock::{ClockError, by_value};
 
 pub fn new(
     words: &mut [u64],
@@ -17,57 +17,49 @@ pub fn new(
     ensures { returned result words.new ≡ opened words.old (created utc_filetime uptime_ms utc_offset_minutes base_mhz) }
 {
     match by_value::new(utc_filetime, uptime_ms, utc_offset_minutes, base_mhz) {
-        Created::Err(why) => error_number(why),
-        Created::Ok(c) => {
-            if words.len() < 7 {
-                return 27;
-            }
+        Ok(_) if words.len() < 7 => u64::from(ClockError::OutOfForm),
+        Ok(c) => {
             store(words, c);
             0
         }
+        Err(why) => u64::from(why),
     }
 }
 
 pub fn instruction(words: &mut [u64]) -> u64
     ensures { returned result words.new ≡ changed instruction words.old }
 {
-    let after = by_value::instruction(load(words));
-    end(words, after)
+    change(words, by_value::instruction)
 }
 
 pub fn flush_cycles(words: &mut [u64]) -> u64
     ensures { returned result words.new ≡ changed flush_cycles words.old }
 {
-    let after = by_value::flush_cycles(load(words));
-    end(words, after)
+    change(words, by_value::flush_cycles)
 }
 
 pub fn observe(words: &mut [u64]) -> u64
     ensures { returned result words.new ≡ changed observe words.old }
 {
-    let after = by_value::observe(load(words));
-    end(words, after)
+    change(words, by_value::observe)
 }
 
 pub fn advance_microseconds(words: &mut [u64], amount: u64) -> u64
     ensures { returned result words.new ≡ changed (λ (c : GuestClock). advance_microseconds c amount) words.old }
 {
-    let after = by_value::advance_microseconds(load(words), amount);
-    end(words, after)
+    change(words, |c| by_value::advance_microseconds(c, amount))
 }
 
 pub fn advance_100ns(words: &mut [u64], ticks: u64) -> u64
     ensures { returned result words.new ≡ changed (λ (c : GuestClock). advance100ns c ticks) words.old }
 {
-    let after = by_value::advance_100ns(load(words), ticks);
-    end(words, after)
+    change(words, |c| by_value::advance_100ns(c, ticks))
 }
 
 pub fn advance_milliseconds(words: &mut [u64], amount: u32) -> u64
     ensures { returned result words.new ≡ changed (λ (c : GuestClock). advance_milliseconds c amount) words.old }
 {
-    let after = by_value::advance_milliseconds(load(words), amount);
-    end(words, after)
+    change(words, |c| by_value::advance_milliseconds(c, amount))
 }
 
 pub fn qpc(words: &[u64], out: &mut [u64]) -> u64

@@ -1,6 +1,7 @@
-use Rattle.clock_words.specs.ClockWords.{changed}
+use Rattle.std.proofs.Common.{rules, ap, ◌∙◌}
+use Rattle.clock_words.specs.ClockWords.{changed, ended}
 use Rattle.clock_words.proofs.operations.advance_microseconds.Goals as goal
 
 pub returns : goal.returns
 unfolding changed
-returns c = cc
+returns c = let (after, post, is) = c.change.ensures in is ∙ ap (ended _) (search rules)
