@@ -102,7 +102,7 @@ fn change<F: FnOnce(GuestClock) -> Outcome>(w: &mut [u64], call: F) -> u64
 fn answer(out: &mut [u64], reading: Result<u64, ClockError>) -> u64
     ensures { returned result out.new ≡ answered out.old reading }
 {
-    if out.len() < 1 {
+    if out.is_empty() {
         return u64::from(ClockError::OutOfForm);
     }
     match reading {

@@ -1,16 +1,16 @@
-use borrow.Author.Tests.{lt-ltb, le-ltb}
-use mathlib.Core.Path.{ap}
+use Rattle.std.proofs.Common.{sym, ap, length, lt-ltb, le-ltb, eqb-true, arith}
+use borrow.Author.Tests.{eqb-false}
 use Rattle.clock_words.specs.ClockWords.{answered, placed, returned}
 use Rattle.clock_words.proofs.answer.Goals as goal
 
-pub returns-then-out-lt1 : goal.returns-then-out-lt1
+pub returns-then-is_empty : goal.returns-then-is_empty
 unfolding answered
-returns-then-out-lt1 c = simp (lt-ltb _ _ c.if-out-lt1.true, c.from.ensures)
+returns-then-is_empty c = simp (lt-ltb (length c.args.out.now) 1 (omega (arith, eqb-true _ _ (sym c.if-is_empty.ensures))), c.from.ensures)
 
 pub returns-in-Err : goal.returns-in-Err
 unfolding answered placed
-returns-in-Err c = simp (le-ltb _ _ c.if-out-lt1.false, c.in-Err.is, c.from-in-Err.ensures)
+returns-in-Err c = simp (le-ltb (length c.args.out.now) 1 (omega (arith, eqb-false _ _ (sym c.if-is_empty.ensures))), c.in-Err.is, c.from-in-Err.ensures)
 
 pub returns-in-Ok : goal.returns-in-Ok
 unfolding answered placed
-returns-in-Ok c = simp (le-ltb _ _ c.if-out-lt1.false, c.in-Ok.is) (ap (returned 0) c.put.ensures)
+returns-in-Ok c = simp (le-ltb (length c.args.out.now) 1 (omega (arith, eqb-false _ _ (sym c.if-is_empty.ensures))), c.in-Ok.is) (ap (returned 0) c.put.ensures)
