@@ -1,8 +1,8 @@
 -- The next due by remainder, and where it passes 2^64 - 1.
-use Rattle.std.proofs.Common.{◌≡◌, ℕ, ◌+◌, ◌-◌, ◌*◌, ◌/◌, ◌%◌, ◌^◌, ◌<◌, ◌≤◌, Bool, true, false, cond, ltb, sym, refl, ap, ◌∙◌, subst, add-zero, add-mul, one-mul, mul-zero, div-add-mod', arith, ltb-false, le-ltb, lt-ltb}
+use Rattle.std.proofs.Common.{◌≡◌, ℕ, ◌+◌, ◌-◌, ◌*◌, ◌/◌, ◌%◌, ◌^◌, ◌<◌, ◌≤◌, sym, ap, ◌∙◌, subst, add-zero, add-mul, one-mul, mul-zero, div-add-mod', arith, lt-ltb, Some, None, is_some, unwrap_or, Bool, true, false, not, cond, ltb, refl, true≢false}
 use native.Mathlib.Nat.{zero-div, mod-le}
 use Rattle.wide.specs.Checked.{checked}
-use Rattle.wide.specs.declared.Checked.TheVariants.{Value, Overflow}
+use Rattle.wide.proofs.CheckedLaws.{passing}
 use Rattle.expiry.specs.Next.{next_by, next_due}
 
 -- ---- the next due by remainder
@@ -27,42 +27,34 @@ next-early due time step h =
 
 -- ---- against 2^64
 
-pub value-fits : (n exact : ℕ) → Value n ≡ checked exact → ltb exact (2 ^ 64) ≡ true
+pub none-is : (n : ℕ) (b : Bool) → is_some (checked n) ≡ not b → b ≡ not (ltb n (2 ^ 64))
 unfolding checked
-value-fits n exact = go (ltb exact (2 ^ 64))
+none-is n = go (ltb n (2 ^ 64))
   where
-    go : (b : Bool) → Value n ≡ cond b (Value exact) Overflow → b ≡ true
-    go true e = refl
-    go false e = absurd (let z : ◌≡◌ {A = ℕ} 0 1 = cc in omega arith)
+    go : (t b : Bool) → is_some (cond t (Some n) None) ≡ not b → b ≡ not t
+    go true true e = absurd (true≢false e)
+    go true false e = refl
+    go false true e = refl
+    go false false e = absurd (true≢false (sym e))
 
-pub value-is : (n exact : ℕ) → Value n ≡ checked exact → n ≡ exact
+pub value-or : (n other : ℕ) → unwrap_or (checked n) other ≡ cond (ltb n (2 ^ 64)) n other
 unfolding checked
-value-is n exact = go (ltb exact (2 ^ 64))
+value-or n other = go (ltb n (2 ^ 64))
   where
-    go : (b : Bool) → Value n ≡ cond b (Value exact) Overflow → n ≡ exact
-    go true e = cc
-    go false e = absurd (let z : ◌≡◌ {A = ℕ} 0 1 = cc in omega arith)
-
-pub overflow-is : (exact : ℕ) → Overflow ≡ checked exact → ltb exact (2 ^ 64) ≡ false
-unfolding checked
-overflow-is exact = go (ltb exact (2 ^ 64))
-  where
-    go : (b : Bool) → Overflow ≡ cond b (Value exact) Overflow → b ≡ false
-    go true e = absurd (let z : ◌≡◌ {A = ℕ} 0 1 = cc in omega arith)
-    go false e = refl
+    go : (t : Bool) → unwrap_or (cond t (Some n) None) other ≡ cond t n other
+    go true = refl
+    go false = refl
 
 -- a timer of period 0 keeps its due
-pub one-shot : (due time period : ℕ) → due < 2 ^ 64 → period ≡ 0 → Value due ≡ checked (next_due due time period)
+pub one-shot : (due time period : ℕ) → due < 2 ^ 64 → period ≡ 0 → Some due ≡ checked (next_due due time period)
 unfolding next_due next_by checked
 one-shot due time period h e = sym (simp (e, mul-zero, add-zero, lt-ltb due (2 ^ 64) h))
 
 -- ticks between dues that pass 2^64 - 1 make the next due pass it
-pub step-passes : (due time period : ℕ) → Overflow ≡ checked (10000 * period) → Overflow ≡ checked (next_due due time period)
-unfolding next_due next_by checked
-step-passes due time period e =
-    let h : 2 ^ 64 ≤ 10000 * period = ltb-false (10000 * period) (2 ^ 64) (overflow-is (10000 * period) e) in
-    let k : 2 ^ 64 ≤ due + ((time - due) / (10000 * period) + 1) * (10000 * period) = above due ((time - due) / (10000 * period)) (10000 * period) h in
-    sym (simp (le-ltb _ _ k))
+pub step-passes : (due time period : ℕ) → 2 ^ 64 ≤ 10000 * period → None ≡ checked (next_due due time period)
+unfolding next_due next_by
+step-passes due time period h =
+    passing _ (λ l. omega (arith, above due ((time - due) / (10000 * period)) (10000 * period) h))
   where
     above : (d q p : ℕ) → 2 ^ 64 ≤ p → 2 ^ 64 ≤ d + (q + 1) * p
     above d q p h = subst (λ (n : ℕ). 2 ^ 64 ≤ d + n) (sym (steps q p)) (let m : (x y z : ℕ) → 2 ^ 64 ≤ z → 2 ^ 64 ≤ x + (y + z) = λ x y z l. omega arith in m d (q * p) p h)
