@@ -1,34 +1,29 @@
 -- A digit taken or not, and the number scanned at each of its digits.
-use Rattle.std.proofs.Common.{◌≡◌, ℕ, zero, suc, ◌+◌, ◌-◌, ◌*◌, ◌^◌, ◌<◌, ◌≤◌, Bool, true, false, ◌&&◌, ltb, leb, List, [], ◌∷◌, length, get_or, drop, sym, refl, ap, add-one, arith, drop-cons, ltb-false, ltb-true, le-ltb, le-leb, leb-true}
+use Rattle.std.proofs.Common.{◌≡◌, ℕ, zero, suc, ◌+◌, ◌-◌, ◌*◌, ◌^◌, ◌<◌, ◌≤◌, Bool, true, false, ◌&&◌, ltb, leb, List, [], ◌∷◌, length, get_or, drop, sym, refl, ap, add-one, arith, drop-cons, ltb-true, lt-ltb, le-leb, leb-true, Option, Some, None, SomeIff}
 use mathlib.Core.Bool.{false≢true}
-use borrow.Author.Tests.{lt-leb}
 use lib.Seq.{drop-nil}
 use Rattle.clock_replay.specs.Decimal.{with_digit, takes, scanned}
 
--- 1844674407370955161 is 2^64 - 1 div 10
-pub too_large : (n b : ℕ) → 1844674407370955161 < n → ltb (with_digit n b) (2 ^ 64) ≡ false
-too_large n b h = le-ltb _ _ (let z : 2 ^ 64 ≤ n * 10 + (b - 48) = omega arith in z)
-
-pub room : (n b : ℕ) → n ≤ 1844674407370955161 → leb (b - 48) (2 ^ 64 - 1 - n * 10) ≡ ltb (with_digit n b) (2 ^ 64)
-room n b h = go (ltb (with_digit n b) (2 ^ 64)) refl
-  where
-    go : (t : Bool) → ltb (with_digit n b) (2 ^ 64) ≡ t → leb (b - 48) (2 ^ 64 - 1 - n * 10) ≡ t
-    go true e = le-leb _ _ (let l = ltb-true (n * 10 + (b - 48)) (2 ^ 64) e in let z : b - 48 ≤ 2 ^ 64 - 1 - n * 10 = omega arith in z)
-    go false e = lt-leb _ _ (let l = ltb-false (n * 10 + (b - 48)) (2 ^ 64) e in let z : 2 ^ 64 - 1 - n * 10 < b - 48 = omega arith in z)
-
 pub record Taken (n b : ℕ) : Type 0 where
   pub least : 48 ≤ b
+  pub most : b ≤ 57
   pub fits : with_digit n b < 2 ^ 64
 
 pub taken : (n b : ℕ) → takes n b ≡ true → Taken n b
 unfolding takes
-taken n b = go (leb 48 b) (leb b 57) (ltb (with_digit n b) (2 ^ 64)) refl refl
+taken n b = go (leb 48 b) (leb b 57) (ltb (with_digit n b) (2 ^ 64)) refl refl refl
   where
-    go : (x y z : Bool) → leb 48 b ≡ x → ltb (with_digit n b) (2 ^ 64) ≡ z → (x && (y && z)) ≡ true → Taken n b
-    go true true true e f t = record { least = leb-true 48 b e; fits = ltb-true (with_digit n b) (2 ^ 64) f }
-    go true true false e f t = absurd (false≢true t)
-    go true false z e f t = absurd (false≢true t)
-    go false y z e f t = absurd (false≢true t)
+    go : (x y z : Bool) → leb 48 b ≡ x → leb b 57 ≡ y → ltb (with_digit n b) (2 ^ 64) ≡ z → (x && (y && z)) ≡ true → Taken n b
+    go true true true e d f t = record { least = leb-true 48 b e; most = leb-true b 57 d; fits = ltb-true (with_digit n b) (2 ^ 64) f }
+    go true true false e d f t = absurd (false≢true t)
+    go true false z e d f t = absurd (false≢true t)
+    go false y z e d f t = absurd (false≢true t)
+
+-- of a digit the test is that of the sum
+pub taking : (n b tens : ℕ) (r : Option ℕ) → 48 ≤ b → b ≤ 57 → tens ≡ n * 10 → SomeIff r (tens + (b - 48) < 2 ^ 64) (tens + (b - 48)) → SomeIff r (takes n b ≡ true) (with_digit n b)
+unfolding takes
+taking n b tens None least most e h = λ t. h (omega (arith, (taken n b t).fits))
+taking n b tens (Some m) least most e h = (simp (le-leb 48 b least, le-leb b 57 most, lt-ltb (with_digit n b) (2 ^ 64) (omega (arith, h.0))), omega (arith, h.1))
 
 drop-out : (n : ℕ) (s : List ℕ) → length s ≤ n → drop n s ≡ []
 drop-out n [] h = drop-nil n
@@ -47,3 +42,11 @@ module _ (s : List ℕ) (at n : ℕ) where
   pub at-digit : at < length s → takes n (get_or s at 0) ≡ true → scanned (drop at s) at n ≡ scanned (drop (at + 1) s) (at + 1) (with_digit n (get_or s at 0))
   unfolding scanned
   at-digit h e = simp (drop-cons s at 0 h, e) (ap (λ (k : ℕ). scanned (drop k s) (at + 1) (with_digit n (get_or s at 0))) (sym (add-one at)))
+
+-- a test that does not hold
+pub refused : (n b : ℕ) → (takes n b ≡ true → ⊥) → takes n b ≡ false
+refused n b = go (takes n b)
+  where
+    go : (t : Bool) → (t ≡ true → ⊥) → t ≡ false
+    go true h = absurd (h refl)
+    go false h = refl

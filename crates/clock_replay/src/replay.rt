@@ -26,22 +26,16 @@ fn past(text: &[u8], at: usize) -> usize {
 
 fn read_step(text: &[u8], from: usize, step: &mut [u64]) -> usize {
     let mut at = from;
-    let mut i: usize = 0;
-    while i < FIELDS {
+    for word in step {
         let found = decimal::scan(text, at);
-        words::put(step, i, found.value);
+        *word = found.value;
         at = past(text, found.next);
-        i += 1;
     }
     at
 }
 
 fn minutes(word: u64) -> i32 {
-    if word <= 2_147_483_647 {
-        (word as i32) - 840
-    } else {
-        2_147_483_647
-    }
+    i32::try_from(word).map_or(i32::MAX, |offset| offset - 840)
 }
 
 fn low(word: u64) -> u32 {
@@ -92,20 +86,9 @@ fn call(clock: &mut [u64], out: &mut [u64], step: &[u64]) -> u64 {
 }
 
 fn same(clock: &[u64], out: &[u64], number: u64, step: &[u64]) -> bool {
-    if number != words::get(step, NUMBER) {
-        return false;
-    }
-    if words::get(out, 0) != words::get(step, VALUE) {
-        return false;
-    }
-    let mut i: usize = 0;
-    while i < WORDS {
-        if words::get(clock, i) != words::get(step, AFTER + i) {
-            return false;
-        }
-        i += 1;
-    }
-    true
+    number == words::get(step, NUMBER)
+        && words::get(out, 0) == words::get(step, VALUE)
+        && (0..WORDS).all(|i| words::get(clock, i) == words::get(step, AFTER + i))
 }
 
 fn run(clock: &mut [u64], out: &mut [u64], step: &[u64]) -> bool {
@@ -115,11 +98,11 @@ fn run(clock: &mut [u64], out: &mut [u64], step: &[u64]) -> bool {
 }
 
 pub fn all(text: &[u8]) -> Tally {
-    let mut clock_words = [0u64; 7];
+    let mut clock_words = [0u64; WORDS];
     let clock: &mut [u64] = &mut clock_words;
     let mut out_words = [0u64; 1];
     let out: &mut [u64] = &mut out_words;
-    let mut step_words = [0u64; 14];
+    let mut step_words = [0u64; FIELDS];
     let step: &mut [u64] = &mut step_words;
     let mut tally = Tally {
         steps: 0,
@@ -133,9 +116,9 @@ pub fn all(text: &[u8]) -> Tally {
             return tally;
         }
         if !run(clock, out, step) {
-            tally.differences = std::num::wrapping_add_u64(tally.differences, 1);
+            tally.differences = tally.differences.wrapping_add(1);
         }
-        tally.steps = std::num::wrapping_add_u64(tally.steps, 1);
+        tally.steps = tally.steps.wrapping_add(1);
         at = next;
     }
     tally

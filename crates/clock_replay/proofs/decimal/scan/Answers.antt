@@ -1,15 +1,16 @@
-use Rattle.std.proofs.Common.{sym, ◌∙◌}
-use Rattle.clock_replay.proofs.DecimalLaws.{at-end, at_other, at-digit}
+use Rattle.std.proofs.Common.{◌≡◌, max, length, sym, ◌∙◌, arith}
+use Rattle.clock_replay.proofs.DecimalLaws.{at-end, at_other, at-digit, refused}
 use Rattle.clock_replay.proofs.decimal.scan.Goals as goal
 
-pub returns-then-not-takes : goal.returns-then-not-takes
-returns-then-not-takes c = sym (at_other c.args.text.now _ _ c.loop-at-test.true (sym c.takes.ensures ∙ c.if-not-takes.true)) ∙ c.loop-at.invariant
+pub returns-in_default : goal.returns-in_default
+returns-in_default c = sym (at_other c.args.text.now _ _ c.loop-next-test.true (refused _ _ c.in_default.ensures)) ∙ c.loop-next.invariant.0
 
-pub with_digit-value-requires : goal.with_digit-value-requires
-with_digit-value-requires c = sym c.takes.ensures ∙ c.if-not-takes.false
-
-pub loop-at-preserved : goal.loop-at-preserved
-loop-at-preserved c = cc (at-digit c.args.text.now c.loop-at.at c.loop-at.value c.loop-at-test.true (sym c.takes.ensures ∙ c.if-not-takes.false))
+pub loop-next-preserved : goal.loop-next-preserved
+loop-next-preserved c =
+    let (takes, is) = c.in-Some.ensures in
+    (rw is (sym (at-digit c.args.text.now c.loop-next.next c.loop-next.value c.loop-next-test.true takes) ∙ c.loop-next.invariant.0), omega (arith, c.loop-next-test.true))
 
 pub returns : goal.returns
-returns c = sym (at-end c.args.text.now _ _ c.loop-at-test.false) ∙ c.loop-at.invariant
+returns c =
+    let end : max c.args.from (length c.args.text.now) ≡ c.loop-next.next = omega (arith, c.loop-next.invariant.1, c.loop-next-test.false, c.loop-next.auto.next) in
+    rw (c.max.ensures, end) (sym (at-end c.args.text.now _ _ c.loop-next-test.false) ∙ c.loop-next.invariant.0)

@@ -1,12 +1,15 @@
 use Rattle.std.proofs.Common.{arith}
-use Rattle.clock_replay.proofs.DecimalLaws.{taken}
+use Rattle.clock_replay.proofs.DecimalLaws.{taken, taking}
+use Rattle.clock_replay.proofs.decimal.with_digit.Goals.{then-b-lt48-via-then-b-lt48, then-b-lt48-via-else-b-lt48+then-b-gt57}
 use Rattle.clock_replay.proofs.decimal.with_digit.Goals as goal
 
-pub overflow_mul-result : goal.overflow_mul-result
-overflow_mul-result c = omega (arith, (taken _ _ c.requires).fits)
+pub returns-then-b-lt48 : goal.returns-then-b-lt48
+returns-then-b-lt48 c = λ e.
+    let t = taken _ _ e in
+    elim c.then-b-lt48.branch [ then-b-lt48-via-then-b-lt48 w ↦ omega (arith, t.least, w.if-b-lt48.true) | then-b-lt48-via-else-b-lt48+then-b-gt57 w ↦ omega (arith, t.most, w.if-b-gt57.true) ]
 
-pub overflow_sub-result : goal.overflow_sub-result
-overflow_sub-result c = (taken _ _ c.requires).least
+pub returns-in_err-checked_mul : goal.returns-in_err-checked_mul
+returns-in_err-checked_mul c = rw c.from_residual.ensures (λ e. c.in_err-checked_mul.ensures (omega (arith, (taken _ _ e).fits)))
 
-pub overflow_add-result : goal.overflow_add-result
-overflow_add-result c = omega (arith, (taken _ _ c.requires).fits)
+pub returns : goal.returns
+returns c = taking _ _ _ _ c.if-b-lt48.false c.if-b-gt57.false c.in_ok-checked_mul.ensures.1 c.checked_add.ensures
