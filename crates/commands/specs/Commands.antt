@@ -1,11 +1,10 @@
 -- Which call a command of a script makes, and what it does to the scheduler's words.
-use Rattle.std.specs.Prelude.{Bool, cond, List, ℕ, ltb, length, take}
+use Rattle.std.specs.Prelude.{Bool, cond, List, ℕ, ltb, length, take, Result}
 use Rattle.answers.specs.declared.Answer.{Answer}
 use Rattle.answers.specs.declared.Answer.TheVariants as answer
 use Rattle.answers.specs.Outcome.{Outcome, outcome}
 use Rattle.clock.specs.declared.GuestClock.{GuestClock}
-use Rattle.clock.specs.declared.Created.{Created}
-use Rattle.clock.specs.declared.Reading as clock-reading
+use Rattle.clock.specs.declared.ClockError.{ClockError}
 use Rattle.clock.specs.declared.Outcome as clock
 use Rattle.clock.specs.Clock.{created, instruction, advance_microseconds, advance100ns, advance_milliseconds, flush_cycles, observe, qpc, tick64, tsc}
 use Rattle.dpc_work.specs.declared.WorkAnswer.{WorkAnswer}
@@ -63,9 +62,9 @@ pub data Asked : Type 0 where
   bares : (c : Call) → Shown (meaning c) → Asked  -- a call whose answer is shown as a number alone
   works : ℕ → Asked  -- `start_dpc` of this address
   dispatching : Asked
-  creates : Created → Asked  -- `clock new`
+  creates : Result GuestClock ClockError → Asked  -- `clock new`
   moves : (GuestClock → clock.Outcome) → Asked  -- a call that may change the clock
-  asks : (GuestClock → clock-reading.Reading) → Asked  -- one that only reads it
+  asks : (GuestClock → Result ℕ ClockError) → Asked  -- one that only reads it
 
 -- the first `count` numbers of the list are the kinds and keys
 abbrev pub waiting : List ℕ → Bool → Bool → ℕ → ℕ → ℕ → Asked

@@ -7,18 +7,15 @@ use native.Mathlib.Decide.{ℕ_discrete}
 use borrow.Author.Tests.{eq-eqb, ne_eqb}
 use lib.Dec.{eqb, ltb}
 use lib.ListN.{length, length-set, get_or, set}
+use Rattle.std.specs.Prelude as std
+use Rattle.std.specs.Prelude.{Ok, Err, ⊤}
 use Rattle.answers.specs.declared.Answer as code
 use Rattle.answers.specs.declared.Answer.TheVariants as answer
 use Rattle.answers.specs.Outcome as code-outcome
 use Rattle.answers.specs.Outcome.{outcome}
 use Rattle.clock.specs.declared.GuestClock.{GuestClock}
-use Rattle.clock.specs.declared.Created.{Created}
-use Rattle.clock.specs.declared.Created.TheVariants as created-as
-use Rattle.clock.specs.declared.Reading as clock-reading
+use Rattle.clock.specs.declared.ClockError.{ClockError}
 use Rattle.clock.specs.declared.Outcome as clock
-use Rattle.clock.specs.declared.Done as clock-done
-use Rattle.clock.specs.declared.Done.TheVariants as clock-done-as
-use Rattle.clock.specs.declared.Reading.TheVariants as clock-reading-as
 use Rattle.dpc_work.specs.declared.WorkAnswer.{WorkAnswer}
 use Rattle.dpc_work.specs.declared.WorkAnswer.TheVariants as work
 use Rattle.words.specs.Layout as at
@@ -224,20 +221,20 @@ module _ (w out : List ℕ) (s : Session) (st : State) (h : Stands w out s st) w
     by-clock : (x : Step) → Speaks (told x.answer) → x.session.opened ≡ s.opened → Same (performed_as x w out) (by_clock st x)
     by-clock x speaks q = record { answer = told_with_lem out x.answer _ refl speaks; session = refl; stands = record { long = h.long; room = h.room; agrees = λ z. h.agrees (sym q ∙ z) } }
 
-    created-same : (made : Created) → Same (performed_as (program.new_clock s made) w out) (by_clock st (program.new_clock s made))
+    created-same : (made : std.Result GuestClock ClockError) → Same (performed_as (program.new_clock s made) w out) (by_clock st (program.new_clock s made))
     unfolding program.new_clock
-    created-same (created-as.Ok c) = by-clock _ (record { it = tt }) refl
-    created-same (created-as.Err why) = by-clock _ (record { it = tt }) refl
+    created-same (Ok c) = by-clock _ (record { it = tt }) refl
+    created-same (Err why) = by-clock _ (record { it = tt }) refl
 
     moved_same : (f : GuestClock → clock.Outcome) → Same (performed_as (program.moved s (f s.clock)) w out) (by_clock st (program.moved s (f s.clock)))
     unfolding program.moved program.done_answer
     moved_same f = by-clock _ (speaks s.timed (f s.clock).answer) (go s.timed)
       where
-        done : (x : clock-done.Done) → Speaks (told (program.done_answer x))
-        done clock-done-as.Ok = record { it = tt }
-        done (clock-done-as.Err why) = record { it = tt }
+        done : (x : std.Result ⊤ ClockError) → Speaks (told (program.done_answer x))
+        done (Ok x) = record { it = tt }
+        done (Err why) = record { it = tt }
 
-        speaks : (b : Bool) (x : clock-done.Done) → Speaks (told (cond b (record { answer = program.done_answer x; session = record { opened = s.opened; timed = s.timed; clock = (f s.clock).clock } }) (unchanged s (answer.Refused 28))).answer)
+        speaks : (b : Bool) (x : std.Result ⊤ ClockError) → Speaks (told (cond b (record { answer = program.done_answer x; session = record { opened = s.opened; timed = s.timed; clock = (f s.clock).clock } }) (unchanged s (answer.Refused 28))).answer)
         speaks true x = done x
         speaks false x = record { it = tt }
 
@@ -245,13 +242,13 @@ module _ (w out : List ℕ) (s : Session) (st : State) (h : Stands w out s st) w
         go true = refl
         go false = refl
 
-    told_same : (f : GuestClock → clock-reading.Reading) → Same (performed_as (program.told s (f s.clock)) w out) (by_clock st (program.told s (f s.clock)))
+    told_same : (f : GuestClock → std.Result ℕ ClockError) → Same (performed_as (program.told s (f s.clock)) w out) (by_clock st (program.told s (f s.clock)))
     unfolding program.told program.reading_answer
     told_same f = by-clock _ (speaks s.timed (f s.clock)) refl
       where
-        speaks : (b : Bool) (x : clock-reading.Reading) → Speaks (told (cond b (program.reading_answer x) (answer.Refused 28)))
-        speaks true (clock-reading-as.Ok n) = record { it = tt }
-        speaks true (clock-reading-as.Err why) = record { it = tt }
+        speaks : (b : Bool) (x : std.Result ℕ ClockError) → Speaks (told (cond b (program.reading_answer x) (answer.Refused 28)))
+        speaks true (Ok n) = record { it = tt }
+        speaks true (Err why) = record { it = tt }
         speaks false x = record { it = tt }
 
     performs : (m : Asked) → AskedFits m → Same (gone_on w out s m) (when_open s st m)

@@ -1,14 +1,10 @@
 -- What the command of a line does to a bench: the scheduler in its words, and a clock.
-use Rattle.std.specs.Prelude.{ℕ, Bool, true, false, cond, List, length, pos}
+use Rattle.std.specs.Prelude.{ℕ, Bool, true, false, cond, List, length, pos, Result, Ok, Err, ⊤}
 use Rattle.answers.specs.declared.Answer.{Answer}
 use Rattle.answers.specs.declared.Answer.TheVariants as answer
 use Rattle.answers.specs.Outcome.{Outcome}
-use Rattle.clock.specs.declared.Created.{Created}
-use Rattle.clock.specs.declared.Created.TheVariants as created-as
-use Rattle.clock.specs.declared.Done.{Done}
-use Rattle.clock.specs.declared.Done.TheVariants as done
-use Rattle.clock.specs.declared.Reading as clock-reading
-use Rattle.clock.specs.declared.Reading.TheVariants as reading
+use Rattle.clock.specs.declared.GuestClock.{GuestClock}
+use Rattle.clock.specs.declared.ClockError.{ClockError}
 use Rattle.clock.specs.declared.Outcome as clock
 use Rattle.clock.specs.Numbers.{error_number}
 use Rattle.dispatcher.specs.Dispatch.{Dispatched}
@@ -41,18 +37,18 @@ begin =
 abbrev pub unchanged : Session → Answer → Step
 unchanged s a = record { answer = a; session = s }
 
-unfoldable pub done_answer : Done → Answer
-done_answer done.Ok = answer.Done
-done_answer (done.Err why) = answer.Refused (error_number why)
+unfoldable pub done_answer : Result ⊤ ClockError → Answer
+done_answer (Ok done) = answer.Done
+done_answer (Err why) = answer.Refused (error_number why)
 
-unfoldable pub reading_answer : clock-reading.Reading → Answer
-reading_answer (reading.Ok n) = answer.Count n
-reading_answer (reading.Err why) = answer.Refused (error_number why)
+unfoldable pub reading_answer : Result ℕ ClockError → Answer
+reading_answer (Ok n) = answer.Count n
+reading_answer (Err why) = answer.Refused (error_number why)
 
 -- a clock accepted takes the place of the one before
-unfoldable pub new_clock : Session → Created → Step
-new_clock s (created-as.Ok c) = record { answer = answer.Done; session = record { opened = s.opened; timed = true; clock = c } }
-new_clock s (created-as.Err why) = unchanged s (answer.Refused (error_number why))
+unfoldable pub new_clock : Session → Result GuestClock ClockError → Step
+new_clock s (Ok c) = record { answer = answer.Done; session = record { opened = s.opened; timed = true; clock = c } }
+new_clock s (Err why) = unchanged s (answer.Refused (error_number why))
 
 -- 28 for a clock call before a `clock new` has succeeded
 unfoldable pub moved : Session → clock.Outcome → Step
@@ -60,7 +56,7 @@ moved s o =
     cond s.timed (record { answer = done_answer o.answer; session = record { opened = s.opened; timed = s.timed; clock = o.clock } })
     (unchanged s (answer.Refused 28))
 
-unfoldable pub told : Session → clock-reading.Reading → Step
+unfoldable pub told : Session → Result ℕ ClockError → Step
 told s r = unchanged s (cond s.timed (reading_answer r) (answer.Refused 28))
 
 -- ---- a bench

@@ -1,11 +1,10 @@
 // What a command does to a bench: the scheduler in its words, and a clock.
 ghost use Rattle.std.specs.Prelude.{◌≡◌};
-ghost use Rattle.clock.specs.Numbers.{error_number};
 ghost use Rattle.commands.specs.Commands.{asked};
 ghost use Rattle.runner.specs.Session as spec;
 
 use answers::Answer;
-use clock::{ClockError, Created, Done, GuestClock, Outcome, Reading, by_value};
+use clock::{ClockError, GuestClock, Outcome, by_value};
 use scheduler::changes;
 use script_lex::command::Command;
 
@@ -59,40 +58,30 @@ fn unchanged(s: Session, a: Answer) -> Step
 
 // ---- a clock
 
-fn error_number(why: ClockError) -> u64
-    ensures { result ≡ error_number why }
-{
-    match why {
-        ClockError::InvalidConfiguration => 25,
-        ClockError::Overflow => 26,
-        ClockError::OutOfForm => 27,
-    }
-}
-
-fn done_answer(done: Done) -> Answer
+fn done_answer(done: Result<(), ClockError>) -> Answer
     ensures { result ≡ spec.done_answer done }
 {
     match done {
-        Done::Ok => Answer::Done,
-        Done::Err(why) => Answer::Refused(error_number(why)),
+        Ok(()) => Answer::Done,
+        Err(why) => Answer::Refused(u64::from(why)),
     }
 }
 
-fn reading_answer(r: Reading) -> Answer
+fn reading_answer(r: Result<u64, ClockError>) -> Answer
     ensures { result ≡ spec.reading_answer r }
 {
     match r {
-        Reading::Ok(n) => Answer::Count(n),
-        Reading::Err(why) => Answer::Refused(error_number(why)),
+        Ok(n) => Answer::Count(n),
+        Err(why) => Answer::Refused(u64::from(why)),
     }
 }
 
 // A clock accepted takes the place of the one before.
-fn new_clock(s: Session, made: Created) -> Step
+fn new_clock(s: Session, made: Result<GuestClock, ClockError>) -> Step
     ensures { result ≡ spec.new_clock s made }
 {
     match made {
-        Created::Ok(c) => Step {
+        Ok(c) => Step {
             answer: Answer::Done,
             session: Session {
                 opened: s.opened,
@@ -100,7 +89,7 @@ fn new_clock(s: Session, made: Created) -> Step
                 clock: c,
             },
         },
-        Created::Err(why) => unchanged(s, Answer::Refused(error_number(why))),
+        Err(why) => unchanged(s, Answer::Refused(u64::from(why))),
     }
 }
 
@@ -111,19 +100,17 @@ fn moved(s: Session, o: Outcome) -> Step
     if !s.timed {
         return unchanged(s, Answer::Refused(28));
     }
-    let done = o.answer;
-    let after = o.clock;
     Step {
-        answer: done_answer(done),
+        answer: done_answer(o.answer),
         session: Session {
             opened: s.opened,
             timed: s.timed,
-            clock: after,
+            clock: o.clock,
         },
     }
 }
 
-fn told(s: Session, r: Reading) -> Step
+fn told(s: Session, r: Result<u64, ClockError>) -> Step
     ensures { result ≡ spec.told s r }
 {
     if !s.timed {

@@ -7,4 +7,4 @@ returns-in-Ok c = simp c.in-Ok.is
 
 pub returns-in-Err : goal.returns-in-Err
 unfolding new_clock
-returns-in-Err c = simp c.in-Err.is (cc (c.unchanged.ensures, c.error_number.ensures))
+returns-in-Err c = simp c.in-Err.is (cc (c.unchanged.ensures, c.from.ensures))

@@ -7,4 +7,4 @@ returns-in-Ok c = simp c.in-Ok.is
 
 pub returns-in-Err : goal.returns-in-Err
 unfolding reading_answer
-returns-in-Err c = simp c.in-Err.is (cc c.error_number.ensures)
+returns-in-Err c = simp c.in-Err.is (cc c.from.ensures)
