@@ -1,5 +1,5 @@
 -- The words after each operation on a chain.
-use Rattle.std.specs.Prelude.{cond, ℕ, zero, suc, ◌+◌, ◌*◌, List, get_or, set, eqb, leb}
+use Rattle.std.specs.Prelude.{cond, ℕ, zero, suc, ◌+◌, ◌*◌, List, [], ◌∷◌, get_or, set, eqb, leb}
 use Rattle.chains.specs.declared.Chain.{Chain}
 
 -- where the number of the record after `before` stands; after 0 comes the first
@@ -11,6 +11,14 @@ first_of w c = get_or w c.first 0
 
 unfoldable pub next_of : List ℕ → Chain → ℕ → ℕ
 next_of w c n = get_or w (link_at c n) 0
+
+-- the records from `at` on, `k` at most
+unfoldable pub members_in : ℕ → List ℕ → Chain → ℕ → List ℕ
+members_in zero w c at = []
+members_in (suc k) w c at = cond (eqb at 0) [] (at ∷ members_in k w c (next_of w c at))
+
+unfoldable pub members_of : List ℕ → Chain → List ℕ
+members_of w c = members_in 4096 w c (first_of w c)
 
 unfoldable pub pushed : List ℕ → Chain → ℕ → List ℕ
 pushed w c n = set (set (set w (link_at c n) 0) (link_at c (get_or w c.last 0)) n) c.last n

@@ -2,7 +2,7 @@
 #![tactic(auto)]
 
 ghost use Rattle.std.specs.Prelude.{◌≡◌, get_or};
-ghost use Rattle.chains.specs.Chain.{link_at, first_of, next_of, pushed, unlinked, find_before, removed};
+ghost use Rattle.chains.specs.Chain.{link_at, first_of, next_of, members_of, pushed, unlinked, find_before, removed};
 
 pub mod ready;
 
@@ -14,6 +14,9 @@ pub struct Chain {
     pub link: u32,
     pub stride: u32,
 }
+
+// No walk along a chain passes more records than this.
+pub const MOST: usize = 4096;
 
 // Where the number of the record after `before` stands; after 0 comes the first. No chain has a record past 4096.
 pub fn link_at(c: Chain, before: u64) -> usize
@@ -38,6 +41,51 @@ pub fn next_of(w: &[u64], c: Chain, n: u64) -> u64
     ensures { result ≡ next_of w.now c n }
 {
     words::get(w, link_at(c, n))
+}
+
+// The numbers of the records of a chain, in its order; no more than 4096 come, so that a chain that runs in a ring ends too.
+#[derive(Clone, Drop)]
+pub struct Members<'a> {
+    w: &'a [u64],
+    chain: Chain,
+    at: u64,
+    left: usize,
+}
+
+impl<'a> Iterator for Members<'a> {
+    ghost use Rattle.std.specs.Iterator.{YieldsFirst, item_count};
+    ghost use Rattle.chains.specs.Members.{members_left};
+
+    type Item = u64;
+
+    ghost next_gives = { YieldsFirst members_left };
+
+    ghost remaining = { item_count members_left };
+
+    fn next(&mut self) -> Option<u64> {
+        if self.at == 0 {
+            return None;
+        }
+        self.left = self.left.checked_sub(1)?;
+        let n = self.at;
+        self.at = next_of(self.w, self.chain, n);
+        Some(n)
+    }
+}
+
+impl Chain {
+    ghost use Rattle.chains.specs.Members.{members_left};
+
+    pub fn members(self, w: &[u64]) -> Members<'_>
+        ensures { members_left result ≡ members_of w.now self }
+    {
+        Members {
+            w,
+            chain: self,
+            at: first_of(w, self),
+            left: MOST,
+        }
+    }
 }
 
 // Record `n`, in no chain, made the last.
@@ -67,14 +115,12 @@ pub fn find_before(w: &[u64], c: Chain, n: u64) -> u64
 {
     let mut before: u64 = 0;
     let mut at = first_of(w, c);
-    let mut left: usize = 4096;
-    while 0 < left {
+    for _ in 0..MOST {
         if at == n {
             return before;
         }
         before = at;
         at = next_of(w, c, at);
-        left -= 1;
     }
     before
 }

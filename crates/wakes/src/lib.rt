@@ -67,15 +67,13 @@ pub fn wake(w: &mut [u64])
 {
     let mut before: u64 = 0;
     let mut at = chains::first_of(w, ready::waiters_chain());
-    let mut left: usize = 4096;
-    while 0 < left {
+    for _ in 0..MOST_WAITERS {
         if at == 0 {
             return;
         }
         let next = chains::next_of(w, ready::waiters_chain(), at);
         before = visit(w, before, at);
         at = next;
-        left -= 1;
     }
 }
 
@@ -83,24 +81,7 @@ pub fn wake(w: &mut [u64])
 pub fn waits_on(w: &[u64], kind: u64, key: u64) -> bool
     ensures { result ≡ waits_on w.now kind key }
 {
-    let mut at = chains::first_of(w, ready::waiters_chain());
-    let mut left: usize = 4096;
-    while 0 < left {
-        if at == 0 {
-            return false;
-        }
-        if lists::has_pair(
-            w,
-            threads::places_at(at),
-            0,
-            threads::count_of(w, at),
-            kind,
-            key,
-        ) {
-            return true;
-        }
-        at = chains::next_of(w, ready::waiters_chain(), at);
-        left -= 1;
-    }
-    false
+    ready::waiters_chain()
+        .members(w)
+        .any(|id| lists::has_pair(w, threads::places_at(id), 0, threads::count_of(w, id), kind, key))
 }
