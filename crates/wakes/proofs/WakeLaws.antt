@@ -9,11 +9,13 @@ use lib.Dec.{eqb, leb}
 use borrow.Author.Tests.{eq-eqb, ne_eqb, leb-true}
 use Rattle.words.specs.Layout as at
 use Rattle.words.specs.Layout.{thread_at}
-use Rattle.chains.specs.Chain.{next_of}
+use Rattle.chains.specs.Chain.{first_of, next_of, members_of}
 use Rattle.chains.specs.Ready.{waiters_chain}
-use Rattle.threads.specs.Thread.{count_of, places_at}
-use Rattle.waits.specs.Lists.{has_pair, first_in, index_in}
-use Rattle.wakes.specs.Wake.{visited, visited_to, passed, waits_in}
+use Rattle.threads.specs.Thread.{count_of}
+use Rattle.waits.specs.Lists.{first_in, index_in}
+use Rattle.wakes.specs.Wake.{visited, visited_to, passed, waits_for, waits_in, waits_on}
+use Rattle.std.specs.List.{list_any}
+use Rattle.chains.proofs.WalkLaws.{any-members}
 use Rattle.waits.proofs.ListLaws.{first-within}
 
 less_one : (k : ℕ) → suc k - 1 ≡ k
@@ -51,24 +53,7 @@ unfolding passed
 pass-more zero w before at h n = absurd (omega arith)
 pass-more (suc k) w before at h n = simp (ne_eqb _ _ n, less_one k)
 
-pub waits-none : (k : ℕ) (w : List ℕ) (at kind key : ℕ) → k ≤ 0 → waits_in k w at kind key ≡ false
-unfolding waits_in
-waits-none zero w at kind key h = refl
-waits-none (suc k) w at kind key h = absurd (omega arith)
-
-pub waits_end : (k : ℕ) (w : List ℕ) (at kind key : ℕ) → at ≡ 0 → waits_in k w at kind key ≡ false
-unfolding waits_in
-waits_end zero w at kind key e = refl
-waits_end (suc k) w at kind key e = simp (eq-eqb _ _ e)
-
-pub waits-found : (k : ℕ) (w : List ℕ) (at kind key : ℕ) → 0 < k → (at ≡ 0 → ⊥) → has_pair (count_of w at) w (places_at at) 0 kind key ≡ true
-    → waits_in k w at kind key ≡ true
-unfolding waits_in
-waits-found zero w at kind key h n e = absurd (omega arith)
-waits-found (suc k) w at kind key h n e = simp (ne_eqb _ _ n, e)
-
-pub waits-more : (k : ℕ) (w : List ℕ) (at kind key : ℕ) → 0 < k → (at ≡ 0 → ⊥) → has_pair (count_of w at) w (places_at at) 0 kind key ≡ false
-    → waits_in k w at kind key ≡ waits_in (k - 1) w (next_of w waiters_chain at) kind key
-unfolding waits_in
-waits-more zero w at kind key h n e = absurd (omega arith)
-waits-more (suc k) w at kind key h n e = simp (ne_eqb _ _ n, e, less_one k)
+-- the waiting threads, of which one waits for the object
+pub waits-any : (w : List ℕ) (kind key : ℕ) → waits_on w kind key ≡ list_any (waits_for w kind key) (members_of w waiters_chain)
+unfolding waits_on waits_in waits_for members_of
+waits-any w kind key = any-members w waiters_chain (waits_for w kind key) (λ k at. waits_in k w at kind key) (λ at. refl) (λ k at. refl) 4096 (first_of w waiters_chain)

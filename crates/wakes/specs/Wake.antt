@@ -37,6 +37,10 @@ passed (suc k) w before at = cond (eqb at 0) w (passed k (visited w before at) (
 unfoldable pub awake : List ℕ → List ℕ
 awake w = passed 4096 w 0 (first_of w waiters_chain)
 
+-- a thread's wait names the object
+unfoldable pub waits_for : List ℕ → ℕ → ℕ → ℕ → Bool
+waits_for w kind key id = has_pair (count_of w id) w (places_at id) 0 kind key
+
 -- one of at most `k` waiting threads from `at` on waits for the object
 unfoldable pub waits_in : ℕ → List ℕ → ℕ → ℕ → ℕ → Bool
 waits_in zero w at kind key = false

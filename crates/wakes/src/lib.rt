@@ -2,7 +2,7 @@
 #![tactic(auto)]
 
 ghost use Rattle.std.specs.Prelude.{◌≡◌};
-ghost use Rattle.wakes.specs.Wake.{made_ready, awoken, grantable, visited, visited_to, awake, waits_on};
+ghost use Rattle.wakes.specs.Wake.{made_ready, awoken, grantable, visited, visited_to, awake, waits_for, waits_on};
 
 use chains::ready;
 use waits::lists;
@@ -17,10 +17,9 @@ pub fn make_ready(w: &mut [u64], id: u64, res: u64)
         w,
         id,
         threads::Thread {
-            priority: t.priority,
             state: threads::READY,
             result: res,
-            status: t.status,
+            ..t
         },
     );
     ready::place(w, t.priority, id);
@@ -67,7 +66,7 @@ pub fn wake(w: &mut [u64])
 {
     let mut before: u64 = 0;
     let mut at = chains::first_of(w, ready::waiters_chain());
-    for _ in 0..MOST_WAITERS {
+    for _ in 0..chains::MOST {
         if at == 0 {
             return;
         }
@@ -77,11 +76,19 @@ pub fn wake(w: &mut [u64])
     }
 }
 
+// Whether the thread's wait names the object.
+fn waits_for(w: &[u64], id: u64, kind: u64, key: u64) -> bool
+    ensures { result ≡ waits_for w.now kind key id }
+{
+    let n = threads::count_of(w, id);
+    lists::has_pair(w, threads::places_at(id), 0, n, kind, key)
+}
+
 // Whether some thread waits for the object.
 pub fn waits_on(w: &[u64], kind: u64, key: u64) -> bool
     ensures { result ≡ waits_on w.now kind key }
 {
     ready::waiters_chain()
         .members(w)
-        .any(|id| lists::has_pair(w, threads::places_at(id), 0, threads::count_of(w, id), kind, key))
+        .any(|id| waits_for(w, id, kind, key))
 }

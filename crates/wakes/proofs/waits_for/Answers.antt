@@ -1,0 +1,11 @@
+use native.Mathlib.Omega.{arith}
+use Rattle.wakes.specs.Wake.{waits_for}
+use Rattle.wakes.proofs.WakeLaws.{count_most}
+use Rattle.wakes.proofs.waits_for.Goals as goal
+
+pub has_pair-requires : goal.has_pair-requires
+has_pair-requires c = omega (arith, count_most c.args.w.now c.args.id, c.count_of-n.ensures)
+
+pub returns : goal.returns
+unfolding waits_for
+returns c = cc
