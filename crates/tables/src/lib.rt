@@ -23,6 +23,9 @@ pub fn key_at(w: &[u64], base: usize, i: u64) -> u64
     words::get(w, layout::entry_at(base, i))
 }
 
+// A search of so many records is over after this many steps.
+const STEPS: usize = 13;
+
 // One step of a search: the half in which the first key that is not below `key` would stand.
 fn narrow(w: &[u64], base: usize, key: u64, p: Part) -> Part
     requires { (0 < p.size) × (p.from + p.size ≤ 8191) }
@@ -50,13 +53,11 @@ pub fn find(w: &[u64], base: usize, n: u64, key: u64) -> u64
         return n;
     }
     let mut p = Part { from: 0, size: n };
-    let mut left: usize = 13;
-    while 0 < left {
+    for _ in 0..STEPS {
         if p.size == 0 {
             return p.from;
         }
         p = narrow(w, base, key, p);
-        left -= 1;
     }
     p.from
 }
@@ -66,13 +67,11 @@ fn raise(w: &mut [u64], end: usize, m: usize)
     requires { (m ≤ end) × (end ≤ 2000000) }
     ensures { w.new ≡ raised m w.old end }
 {
-    let mut i = end;
-    let mut left = m;
-    while 0 < left {
-        i -= 1;
-        let word = words::get(w, i);
-        words::put(w, i + 32, word);
-        left -= 1;
+    // A word that would come to stand past the end of the words is not written.
+    let start = end - m;
+    let stop = end.min(w.len().saturating_sub(layout::RECORD_SIZE));
+    if start < stop {
+        w.copy_within(start..stop, start + layout::RECORD_SIZE);
     }
 }
 
@@ -103,13 +102,9 @@ fn is_marked(w: &[u64], at: usize, word: usize, mark: u64) -> bool
 fn copy(w: &mut [u64], from: usize, to: usize)
     ensures { w.new ≡ copied w.old from to }
 {
-    let mut k: usize = 0;
-    let mut left: usize = 32;
-    while 0 < left {
+    for k in 0..layout::RECORD_SIZE {
         let word = words::get_in(w, from, k);
         words::put_in(w, to, k, word);
-        k += 1;
-        left -= 1;
     }
 }
 

@@ -1,15 +1,15 @@
-use borrow.Author.Rules.{rules}
-use mathlib.Core.Path.{◌∙◌, sym}
+use Rattle.std.proofs.Common.{rules, arith, ◌≡◌, ◌∙◌, ◌+◌, ◌-◌, sym}
 use Rattle.tables.specs.Compact.{copied}
 use Rattle.tables.proofs.CompactLaws.{copied_none, copied_more}
 use Rattle.tables.proofs.copy.Goals as goal
 
-pub loop-left-init : goal.loop-left-init
+pub loop-k-init : goal.loop-k-init
 unfolding copied
-loop-left-init c = (search rules, search rules, cc)
+loop-k-init c = (search rules, cc)
 
-pub loop-left-preserved : goal.loop-left-preserved
-loop-left-preserved c = (search rules, search rules, cc (copied_more c.loop-left.left c.loop-left.w c.args.from c.args.to c.loop-left.k c.loop-left-test.true))
+pub loop-k-preserved : goal.loop-k-preserved
+loop-k-preserved c = let e : 32 - (c.loop-k.k + 1) ≡ 32 - c.loop-k.k - 1 = omega arith in
+    (search rules, cc (copied_more (32 - c.loop-k.k) c.loop-k.w c.args.from c.args.to c.loop-k.k (omega arith)))
 
 pub returns : goal.returns
-returns c = sym (copied_none _ _ _ _ _ c.loop-left-test.false) ∙ c.loop-left.invariant.2
+returns c = sym (copied_none _ _ _ _ _ (omega arith)) ∙ c.loop-k.invariant.1
