@@ -1,5 +1,6 @@
 -- The words after the records with a mark are taken out of a table, and how many stay.
-use Rattle.std.specs.Prelude.{Bool, cond, ℕ, zero, suc, ◌+◌, List, get_or, set, eqb, ltb}
+use Rattle.std.specs.Borrow.{Bor}
+use Rattle.std.specs.Prelude.{◌≡◌, Bool, cond, ℕ, zero, suc, ◌+◌, List, get_or, set, eqb, ltb}
 use Rattle.words.specs.Layout.{entry_at}
 
 -- word `k` of the record at a place is the mark
@@ -17,6 +18,29 @@ copied w from to = copied_in 32 w from to 0
 -- record `i` as record `j`
 unfoldable pub moved : List ℕ → ℕ → ℕ → ℕ → List ℕ
 moved w base i j = cond (eqb i j) w (copied w (entry_at base i) (entry_at base j))
+
+-- the test is what a closure answers of the words and a place
+abbrev pub Tells : (Bor (List ℕ) → ℕ → Bool → Type 0) → (List ℕ → ℕ → Bool) → Type 0
+Tells post test = (w : Bor (List ℕ)) (place : ℕ) (r : Bool) → post w place r → r ≡ test w.now place
+
+-- `m` records from record `i` on, of which those at whose place the test answers yes go, and the others become record `j` and on
+unfoldable pub retained_in : (List ℕ → ℕ → Bool) → ℕ → List ℕ → ℕ → ℕ → ℕ → List ℕ
+retained_in test zero w base i j = w
+retained_in test (suc m) w base i j =
+    cond (test w (entry_at base i)) (retained_in test m w base (i + 1) j) (retained_in test m (moved w base i j) base (i + 1) (j + 1))
+
+-- where the next one would go after them
+unfoldable pub retained_to_in : (List ℕ → ℕ → Bool) → ℕ → List ℕ → ℕ → ℕ → ℕ → ℕ
+retained_to_in test zero w base i j = j
+retained_to_in test (suc m) w base i j =
+    cond (test w (entry_at base i)) (retained_to_in test m w base (i + 1) j) (retained_to_in test m (moved w base i j) base (i + 1) (j + 1))
+
+unfoldable pub retained : (List ℕ → ℕ → Bool) → List ℕ → ℕ → ℕ → List ℕ
+retained test w base n = cond (ltb 8191 n) w (retained_in test n w base 0 0)
+
+-- how many stay
+unfoldable pub retained_to : (List ℕ → ℕ → Bool) → List ℕ → ℕ → ℕ → ℕ
+retained_to test w base n = cond (ltb 8191 n) n (retained_to_in test n w base 0 0)
 
 -- a record that has no mark moved to `j`, and where the next one goes
 unfoldable pub kept : List ℕ → ℕ → ℕ → ℕ → ℕ → ℕ → List ℕ

@@ -2,7 +2,7 @@
 #![tactic(auto)]
 
 ghost use Rattle.std.specs.Prelude.{◌≡◌, ◌+◌, ◌≤◌, ◌<◌};
-ghost use Rattle.tables.specs.Compact.{is_marked, copied, moved, kept, kept_to, compacted, compacted_to};
+ghost use Rattle.tables.specs.Compact.{is_marked, copied, moved, Tells, retained, retained_to, compacted, compacted_to};
 ghost use Rattle.tables.specs.Table.{key_at, narrowed, position, raised, gap_opened};
 
 use words::layout;
@@ -62,12 +62,11 @@ pub fn find(w: &[u64], base: usize, n: u64, key: u64) -> u64
     p.from
 }
 
-// The `m` words before place `end` moved up by a record, the last first.
+// The `m` words before place `end` moved up by a record. A word that would come to stand past the end of the words is dropped.
 fn raise(w: &mut [u64], end: usize, m: usize)
     requires { (m ≤ end) × (end ≤ 2000000) }
     ensures { w.new ≡ raised m w.old end }
 {
-    // A word that would come to stand past the end of the words is not written.
     let start = end - m;
     let stop = end.min(w.len().saturating_sub(layout::RECORD_SIZE));
     if start < stop {
@@ -98,7 +97,8 @@ fn is_marked(w: &[u64], at: usize, word: usize, mark: u64) -> bool
     words::get_in(w, at, word) == mark
 }
 
-// The record at place `from` copied to place `to`, the first word first.
+// The record at place `from` copied to place `to`, the first word first. The library's copy of a range differs where `to` stands within
+// the record at `from`, and where the words end within it.
 fn copy(w: &mut [u64], from: usize, to: usize)
     ensures { w.new ≡ copied w.old from to }
 {
@@ -118,32 +118,27 @@ pub fn move_down(w: &mut [u64], base: usize, i: u64, j: u64)
     copy(w, layout::entry_at(base, i), layout::entry_at(base, j));
 }
 
-// Record `i`, unless it has the mark, becomes record `j`. Answers the place of the next that stays.
-fn keep(w: &mut [u64], base: usize, i: u64, j: u64, word: usize, mark: u64) -> u64
-    requires { j ≤ 8191 }
-    ensures { (result ≡ kept_to w.old base i j word mark) × (w.new ≡ kept w.old base i j word mark) }
+// Of the `n` records, those for which `goes` answers yes at their places taken out; the others keep their order. Answers how many stay.
+pub fn retain<F: Fn(&[u64], usize) -> bool>(w: &mut [u64], base: usize, n: u64, goes: F) -> u64
+    requires { F.IsAlwaysCallable goes }
+    ensures { (test : _) → Tells (F.post goes) test → (result ≡ retained_to test w.old base n) × (w.new ≡ retained test w.old base n) }
 {
-    if is_marked(w, layout::entry_at(base, i), word, mark) {
-        return j;
+    if MOST < n {
+        return n;
     }
-    move_down(w, base, i, j);
-    j + 1
+    let mut j: u64 = 0;
+    for i in 0..n {
+        if !goes(w, layout::entry_at(base, i)) {
+            move_down(w, base, i, j);
+            j += 1;
+        }
+    }
+    j
 }
 
 // Of the `n` records, those whose word `word` is the mark taken out; the others keep their order. Answers how many stay.
 pub fn compact(w: &mut [u64], base: usize, n: u64, word: usize, mark: u64) -> u64
     ensures { (result ≡ compacted_to w.old base n word mark) × (w.new ≡ compacted w.old base n word mark) }
 {
-    if MOST < n {
-        return n;
-    }
-    let mut i: u64 = 0;
-    let mut j: u64 = 0;
-    let mut left = n;
-    while 0 < left {
-        j = keep(w, base, i, j, word, mark);
-        i += 1;
-        left -= 1;
-    }
-    j
+    retain(w, base, n, |w, at| is_marked(w, at, word, mark))
 }
