@@ -10,10 +10,10 @@ ghost use Rattle.words.specs.Word.{bit_of, with_bit, without_bit, top_bit, bit_a
 pub fn get(w: &[u64], i: usize) -> u64
     ensures { result ≡ get_or w.now i 0 }
 {
-    if i < w.len() { w[i] } else { 0 }
+    w.get(i).copied().unwrap_or(0)
 }
 
-// The word at `i` set; nothing past the end.
+// The word at `i` set; nothing past the end. By index, since the library's `get_mut` says nothing of what the slice ends as.
 pub fn put(w: &mut [u64], i: usize, v: u64)
     ensures { w.new ≡ set w.old i v }
 {
@@ -26,20 +26,19 @@ pub fn put(w: &mut [u64], i: usize, v: u64)
 pub fn get_in(w: &[u64], at: usize, k: usize) -> u64
     ensures { result ≡ get_or w.now (at + k) 0 }
 {
-    if usize::MAX - at < k {
-        return 0;
+    match at.checked_add(k) {
+        Some(i) => get(w, i),
+        None => 0,
     }
-    get(w, at + k)
 }
 
 // The word `k` behind place `at` set.
 pub fn put_in(w: &mut [u64], at: usize, k: usize, v: u64)
     ensures { w.new ≡ set w.old (at + k) v }
 {
-    if usize::MAX - at < k {
-        return;
+    if let Some(i) = at.checked_add(k) {
+        put(w, i, v);
     }
-    put(w, at + k, v);
 }
 
 // Bit `p` alone, for a priority.
@@ -50,6 +49,7 @@ pub fn bit(p: u64) -> u64
 }
 
 // `m` with bit `p` set.
+#[tactic(auto, unfolding(crate::specs::Word::with_bit))]
 pub fn with_bit(m: u64, p: u64) -> u64
     ensures { result ≡ with_bit m p }
 {
@@ -57,6 +57,7 @@ pub fn with_bit(m: u64, p: u64) -> u64
 }
 
 // `m` with bit `p` cleared by mask.
+#[tactic(auto, unfolding(crate::specs::Word::without_bit))]
 pub fn without_bit(m: u64, p: u64) -> u64
     ensures { result ≡ without_bit m p }
 {
@@ -76,6 +77,7 @@ pub fn top_bit(m: u64) -> u64
 }
 
 // Bit `p` of `m`.
+#[tactic(auto, unfolding(crate::specs::Word::bit_at))]
 pub fn bit_at(m: u64, p: u64) -> u64
     requires { p ≤ 31 }
     ensures { result ≡ bit_at m p }

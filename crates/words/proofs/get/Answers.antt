@@ -1,6 +1,0 @@
-use lib.ListN.{get_or-eq_default}
-use mathlib.Core.Path.{sym}
-use Rattle.words.proofs.get.Goals as goal
-
-pub returns-else-i-w : goal.returns-else-i-w
-returns-else-i-w c = sym (get_or-eq_default c.args.w.now 0 c.if-i-w.false)
