@@ -22,23 +22,18 @@ pub fn put(w: &mut [u64], i: usize, v: u64)
     }
 }
 
-// The word `k` behind place `at`: no sum of places can pass the end of a number.
+// The word `k` behind place `at`. A sum that passes the end of a number names a place past the end of the words.
 pub fn get_in(w: &[u64], at: usize, k: usize) -> u64
     ensures { result ≡ get_or w.now (at + k) 0 }
 {
-    match at.checked_add(k) {
-        Some(i) => get(w, i),
-        None => 0,
-    }
+    get(w, at.saturating_add(k))
 }
 
 // The word `k` behind place `at` set.
 pub fn put_in(w: &mut [u64], at: usize, k: usize, v: u64)
     ensures { w.new ≡ set w.old (at + k) v }
 {
-    if let Some(i) = at.checked_add(k) {
-        put(w, i, v);
-    }
+    put(w, at.saturating_add(k), v);
 }
 
 // Bit `p` alone, for a priority.
