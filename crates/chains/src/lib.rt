@@ -19,6 +19,7 @@ pub struct Chain {
 pub const MOST: usize = 4096;
 
 // Where the number of the record after `before` stands; after 0 comes the first. No chain has a record past 4096.
+#[tactic(auto, unfolding(crate::specs::Chain::link_at), using(crate::proofs::ChainLaws::span))]
 pub fn link_at(c: Chain, before: u64) -> usize
     ensures { result ≡ link_at c before }
 {
@@ -31,12 +32,14 @@ pub fn link_at(c: Chain, before: u64) -> usize
     c.first as usize
 }
 
+#[tactic(auto, unfolding(crate::specs::Chain::first_of))]
 pub fn first_of(w: &[u64], c: Chain) -> u64
     ensures { result ≡ first_of w.now c }
 {
     words::get(w, c.first as usize)
 }
 
+#[tactic(auto, unfolding(crate::specs::Chain::next_of))]
 pub fn next_of(w: &[u64], c: Chain, n: u64) -> u64
     ensures { result ≡ next_of w.now c n }
 {
@@ -76,6 +79,7 @@ impl<'a> Iterator for Members<'a> {
 impl Chain {
     ghost use Rattle.chains.specs.Members.{members_left};
 
+    #[tactic(auto, unfolding(crate::specs::Chain::members_of))]
     pub fn members(self, w: &[u64]) -> Members<'_>
         ensures { members_left result ≡ members_of w.now self }
     {
@@ -89,6 +93,7 @@ impl Chain {
 }
 
 // Record `n`, in no chain, made the last.
+#[tactic(auto, unfolding(crate::specs::Chain::pushed))]
 pub fn push(w: &mut [u64], c: Chain, n: u64)
     ensures { w.new ≡ pushed w.old c n }
 {
@@ -99,6 +104,7 @@ pub fn push(w: &mut [u64], c: Chain, n: u64)
 }
 
 // Record `n`, which comes after `before`, taken out.
+#[tactic(auto, unfolding(crate::specs::Chain::unlinked))]
 pub fn unlink(w: &mut [u64], c: Chain, before: u64, n: u64)
     ensures { w.new ≡ unlinked w.old c before n }
 {
@@ -126,6 +132,7 @@ pub fn find_before(w: &[u64], c: Chain, n: u64) -> u64
 }
 
 // Record `n`, which stands in the chain, taken out.
+#[tactic(auto, unfolding(crate::specs::Chain::removed))]
 pub fn remove(w: &mut [u64], c: Chain, n: u64)
     ensures { w.new ≡ removed w.old c n }
 {

@@ -6,6 +6,7 @@ use super::Chain;
 use words::layout;
 
 // The ready queue of priority `p`. A number past 31 is no priority, and gets the unused words of priority 0.
+#[tactic(auto, unfolding(crate::specs::Ready::ready_chain))]
 pub fn ready_chain(p: u64) -> Chain
     ensures { result ≡ ready_chain p }
 {
@@ -26,6 +27,7 @@ pub fn ready_chain(p: u64) -> Chain
 }
 
 // The waiting threads, in the order of blocking.
+#[tactic(auto, unfolding(crate::specs::Ready::waiters_chain))]
 pub fn waiters_chain() -> Chain
     ensures { result ≡ waiters_chain }
 {
@@ -38,6 +40,7 @@ pub fn waiters_chain() -> Chain
 }
 
 // The bit of priority `p` set where its queue has no last thread.
+#[tactic(auto, unfolding(crate::specs::Ready::marked))]
 fn mark(w: &mut [u64], p: u64)
     ensures { w.new ≡ marked w.old p }
 {
@@ -49,6 +52,7 @@ fn mark(w: &mut [u64], p: u64)
 }
 
 // The bit of priority `p` cleared where its queue has no last thread.
+#[tactic(auto, unfolding(crate::specs::Ready::unmarked))]
 fn unmark(w: &mut [u64], p: u64)
     ensures { w.new ≡ unmarked w.old p }
 {
@@ -60,6 +64,7 @@ fn unmark(w: &mut [u64], p: u64)
 }
 
 // Thread `id`, in no ready queue, placed last in the queue of priority `p`.
+#[tactic(auto, unfolding(crate::specs::Ready::placed_last))]
 pub fn place(w: &mut [u64], p: u64, id: u64)
     ensures { w.new ≡ placed_last w.old p id }
 {
@@ -68,6 +73,7 @@ pub fn place(w: &mut [u64], p: u64, id: u64)
 }
 
 // Thread `id`, which stands in the queue of priority `p`, taken out.
+#[tactic(auto, unfolding(crate::specs::Ready::unplaced))]
 pub fn unplace(w: &mut [u64], p: u64, id: u64)
     ensures { w.new ≡ unplaced w.old p id }
 {

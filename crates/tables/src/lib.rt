@@ -17,6 +17,7 @@ pub struct Part {
 // No table has more records than this.
 pub const MOST: u64 = 8191;
 
+#[tactic(auto, unfolding(crate::specs::Table::key_at))]
 pub fn key_at(w: &[u64], base: usize, i: u64) -> u64
     ensures { result ≡ key_at w.now base i }
 {
@@ -27,6 +28,7 @@ pub fn key_at(w: &[u64], base: usize, i: u64) -> u64
 const STEPS: usize = 13;
 
 // One step of a search: the half in which the first key that is not below `key` would stand.
+#[tactic(auto, unfolding(crate::specs::Table::narrowed))]
 fn narrow(w: &[u64], base: usize, key: u64, p: Part) -> Part
     requires { (0 < p.size) × (p.from + p.size ≤ 8191) }
     ensures { result ≡ narrowed w.now base key p }
@@ -91,6 +93,7 @@ pub fn open_gap(w: &mut [u64], base: usize, n: u64, i: u64)
 }
 
 // Whether word `word` of the record at place `at` is the mark.
+#[tactic(auto, unfolding(crate::specs::Compact::is_marked))]
 fn is_marked(w: &[u64], at: usize, word: usize, mark: u64) -> bool
     ensures { result ≡ is_marked w.now at word mark }
 {
@@ -109,6 +112,7 @@ fn copy(w: &mut [u64], from: usize, to: usize)
 }
 
 // Record `i` as record `j`.
+#[tactic(auto, unfolding(crate::specs::Compact::moved))]
 pub fn move_down(w: &mut [u64], base: usize, i: u64, j: u64)
     ensures { w.new ≡ moved w.old base i j }
 {

@@ -9,6 +9,7 @@ use waits::lists;
 use words::layout;
 
 // A thread that waited made ready with its wait's result, last in its priority's queue.
+#[tactic(auto, unfolding(crate::specs::Wake::made_ready))]
 pub fn make_ready(w: &mut [u64], id: u64, res: u64)
     ensures { w.new ≡ made_ready w.old id res }
 {
@@ -39,6 +40,7 @@ fn awaken(w: &mut [u64], before: u64, id: u64)
 }
 
 // Whether a waiting thread's wait can be granted. A delay waits for no object.
+#[tactic(auto, unfolding(crate::specs::Wake::grantable), using(crate::proofs::WakeLaws::count_most))]
 pub fn is_grantable(w: &[u64], id: u64) -> bool
     ensures { result ≡ grantable w.now id }
 {
@@ -50,6 +52,7 @@ pub fn is_grantable(w: &[u64], id: u64) -> bool
 }
 
 // A waiting thread woken if its wait can be granted. Answers the one that now comes before the next.
+#[tactic(auto, unfolding(crate::specs::Wake::visited, crate::specs::Wake::visited_to))]
 fn visit(w: &mut [u64], before: u64, id: u64) -> u64
     ensures { (result ≡ visited_to w.old before id) × (w.new ≡ visited w.old before id) }
 {
@@ -77,6 +80,7 @@ pub fn wake(w: &mut [u64])
 }
 
 // Whether the thread's wait names the object.
+#[tactic(auto, unfolding(crate::specs::Wake::waits_for), using(crate::proofs::WakeLaws::count_most))]
 fn waits_for(w: &[u64], id: u64, kind: u64, key: u64) -> bool
     ensures { result ≡ waits_for w.now kind key id }
 {

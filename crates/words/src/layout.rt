@@ -193,6 +193,7 @@ pub const NEW_NUMBER: usize = 21;
 pub const QUEUE_LINK_BEFORE: usize = RECORD_SIZE - NEXT_QUEUED;
 
 // Where thread `id` stands; a number past the largest is no thread's, and gets unused words of the header.
+#[tactic(auto, unfolding(crate::specs::Layout::thread_at))]
 pub fn thread_at(id: u64) -> usize
     ensures { result ≡ thread_at id }
 {
@@ -204,6 +205,7 @@ pub fn thread_at(id: u64) -> usize
 }
 
 // Where the objects start, behind the records of `t` threads.
+#[tactic(auto, unfolding(crate::specs::Layout::objects_at))]
 pub fn objects_at(t: u64) -> usize
     ensures { result ≡ objects_at t }
 {
@@ -215,6 +217,7 @@ pub fn objects_at(t: u64) -> usize
 }
 
 // Where record `i` of a table stands, whose records start at `base`; a number past 8192 is no record's.
+#[tactic(auto, unfolding(crate::specs::Layout::entry_at))]
 pub fn entry_at(base: usize, i: u64) -> usize
     ensures { result ≡ entry_at base i }
 {

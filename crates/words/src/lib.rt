@@ -37,6 +37,7 @@ pub fn put_in(w: &mut [u64], at: usize, k: usize, v: u64)
 }
 
 // Bit `p` alone, for a priority.
+#[tactic(auto, unfolding(crate::specs::Word::bit_of))]
 pub fn bit(p: u64) -> u64
     ensures { result ≡ bit_of p }
 {
