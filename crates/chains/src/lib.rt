@@ -115,7 +115,8 @@ pub fn unlink(w: &mut [u64], c: Chain, before: u64, n: u64)
     }
 }
 
-// The record before `n`, or 0 where `n` is the first.
+// The record before `n`, or 0 where `n` is the first. Not by `members`, since where `n` does not stand in the chain the search goes round
+// by the first.
 pub fn find_before(w: &[u64], c: Chain, n: u64) -> u64
     ensures { result ≡ find_before w.now c n }
 {

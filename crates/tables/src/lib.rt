@@ -47,7 +47,8 @@ fn narrow(w: &[u64], base: usize, key: u64, p: Part) -> Part
     }
 }
 
-// How many of the `n` keys are below `key`, where the keys rise: the place of `key`.
+// How many of the `n` keys are below `key`, where the keys rise: the place of `key`. By hand, since the library searches slices of records,
+// and says nothing where the keys do not rise; the place is defined for all words.
 pub fn find(w: &[u64], base: usize, n: u64, key: u64) -> u64
     ensures { result ≡ position w.now base n key }
 {

@@ -63,7 +63,7 @@ fn visit(w: &mut [u64], before: u64, id: u64) -> u64
     id
 }
 
-// The wake pass: the waiting threads by wait sequence, each once.
+// The wake pass: the waiting threads by wait sequence, each once. Not by `members`, which would hold the words that a visit changes.
 pub fn wake(w: &mut [u64])
     ensures { w.new ≡ awake w.old }
 {
