@@ -21,16 +21,7 @@ fn any_bare(w: &[u64]) -> bool
     ensures { result ≡ any_bare w.now }
 {
     let base = objects::objects_base(w);
-    let mut i: u64 = 0;
-    let mut left = objects::count(w);
-    while 0 < left {
-        if is_bare(w, layout::entry_at(base, i)) {
-            return true;
-        }
-        i += 1;
-        left -= 1;
-    }
-    false
+    (0..objects::count(w)).any(|i| is_bare(w, layout::entry_at(base, i)))
 }
 
 // Whether an inserted timer has the DPC at the address.

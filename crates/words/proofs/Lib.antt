@@ -1,3 +1,4 @@
 pub mod ReadyWord
 pub mod LayoutLaws
 pub mod RecordLaws
+pub mod Walks
