@@ -4,10 +4,12 @@ use native.Mathlib.Omega.{arith}
 use native.Mathlib.Numerals.{add-one}
 use mathlib.Core.List.{List}
 use mathlib.Core.Bool.{Bool, cond, true, false}
-use mathlib.Core.Path.{◌≡◌, refl}
+use mathlib.Core.Path.{◌≡◌, refl, ap, ◌∙◌}
+use lib.Seq.{get_or-take}
+use Rattle.words.proofs.Walks.{walk-more, walk-done}
 use lib.Dec.{leb}
 use borrow.Author.Tests.{leb-true}
-use lib.ListN.{get_or, set, length, length-set, replicate}
+use lib.ListN.{get_or, set, length, length-set, replicate, take}
 use Rattle.words.specs.Layout as at
 use Rattle.threads.specs.Thread.{thread_count, filled, put_places}
 
@@ -20,19 +22,23 @@ unfolding filled
 filled-length zero list = refl
 filled-length (suc k) list = simp (length-set, filled-length k list)
 
-pub put-none : (k : ℕ) (w : List ℕ) (place : ℕ) (places : List ℕ) (i : ℕ) → k ≤ 0 → put_places k w place places i ≡ w
+-- one turn
+pub put-more : (n : ℕ) (w : List ℕ) (place : ℕ) (places : List ℕ) (i : ℕ) → i < n
+    → put_places (n - i) w place places i ≡ put_places (n - (i + 1)) (set w (place + i) (get_or places i 0)) place places (i + 1)
 unfolding put_places
-put-none zero w place places i h = refl
-put-none (suc k) w place places i h = absurd (omega arith)
+put-more n w place places i h = walk-more (λ i w. set w (place + i) (get_or places i 0)) (λ m i w. put_places m w place places i) (λ m i w. refl) n i w h
 
-pub put-more : (k : ℕ) (w : List ℕ) (place : ℕ) (places : List ℕ) (i : ℕ) → 0 < k
-    → put_places k w place places i ≡ put_places (k - 1) (set w (place + i) (get_or places i 0)) place places (i + 1)
+pub put-done : (n : ℕ) (w : List ℕ) (place : ℕ) (places : List ℕ) (i : ℕ) → n ≤ i → put_places (n - i) w place places i ≡ w
 unfolding put_places
-put-more zero w place places i h = absurd (omega arith)
-put-more (suc k) w place places i h = simp (less_one k)
-  where
-    less_one : (k : ℕ) → suc k - 1 ≡ k
-    less_one k = omega arith
+put-done n w place places i h = walk-done (λ m i w. put_places m w place places i) (λ i w. refl) n i w h
+
+-- only the places written are read
+pub put-taken : (k : ℕ) (w : List ℕ) (place : ℕ) (places : List ℕ) (n i : ℕ) → i + k ≤ n → put_places k w place (take n places) i ≡ put_places k w place places i
+unfolding put_places
+put-taken zero w place places n i h = refl
+put-taken (suc k) w place places n i h =
+    ap (λ v. put_places k (set w (place + i) v) place (take n places) (i + 1)) (get_or-take n places i 0 (omega arith))
+    ∙ put-taken k (set w (place + i) (get_or places i 0)) place places n (i + 1) (omega arith)
 
 pub filled_none : (list : List ℕ) → replicate 128 0 ≡ filled 0 list
 unfolding filled

@@ -1,7 +1,7 @@
 // A thread's record in the words: its state, and what it waits for.
 #![tactic(auto)]
 
-ghost use Rattle.std.specs.Prelude.{◌≡◌, ◌≤◌};
+ghost use Rattle.std.specs.Prelude.{◌≡◌, ◌≤◌, length};
 ghost use Rattle.threads.specs.Thread.{thread_of, put_thread, known, thread_count, count_of, all_of, places_at, filled, recorded, put_places, put_terms, put_wait, no_wait};
 
 use words::layout;
@@ -22,7 +22,7 @@ pub const TIMEOUT: u64 = 1;
 
 pub const SATISFIED: u64 = 2;
 
-#[derive(Clone, Copy)]
+#[derive(Clone, Copy, Debug, PartialEq, Eq)]
 pub struct Thread {
     pub priority: u64,
     pub state: u64,
@@ -31,7 +31,7 @@ pub struct Thread {
 }
 
 // A wait for any or all of `count` objects: of 64 places, each a kind and a key, the first `count`. A delay has none.
-#[derive(Clone, Copy)]
+#[derive(Clone, Copy, Debug, PartialEq, Eq)]
 pub struct Wait {
     pub all: u64,
     pub timed: u64,
@@ -67,32 +67,21 @@ pub fn write_thread(w: &mut [u64], id: u64, t: Thread)
 pub fn is_known(w: &[u64], id: u64) -> bool
     ensures { result ≡ known w.now id }
 {
-    if id < 1 {
-        return false;
-    }
-    id <= words::get(w, layout::THREADS)
+    0 < id && id <= words::get(w, layout::THREADS)
 }
 
 // How many threads there are, at most the largest number of one.
 pub fn count(w: &[u64]) -> u64
     ensures { result ≡ thread_count w.now }
 {
-    let n = words::get(w, layout::THREADS);
-    if n <= layout::MOST_THREADS {
-        return n;
-    }
-    layout::MOST_THREADS
+    words::get(w, layout::THREADS).min(layout::MOST_THREADS)
 }
 
 // How many objects a thread waits for, at most 64.
 pub fn count_of(w: &[u64], id: u64) -> usize
     ensures { result ≡ count_of w.now id }
 {
-    let n = words::get_in(w, layout::thread_at(id), layout::WAIT_COUNT);
-    if n <= 64 {
-        return n as usize;
-    }
-    64
+    words::get_in(w, layout::thread_at(id), layout::WAIT_COUNT).min(64) as usize
 }
 
 // 0 where a thread waits for any one.
@@ -115,10 +104,8 @@ fn fill(list: &[u64], n: usize) -> [u64; 128]
     ensures { result ≡ filled n list.now }
 {
     let mut places = [0u64; 128];
-    let mut i: usize = 0;
-    while i < n {
+    for i in 0..n {
         places[i] = words::get(list, i);
-        i += 1;
     }
     places
 }
@@ -128,34 +115,28 @@ pub fn record_of(list: &[u64], n: usize, all: u64, timed: u64, deadline: u64, se
     requires { n ≤ 64 }
     ensures { result ≡ recorded list.now n all timed deadline sequence }
 {
-    let places = fill(list, 2 * n);
     Wait {
         all,
         timed,
         deadline,
         sequence,
         count: n as u64,
-        places,
+        places: fill(list, 2 * n),
     }
 }
 
-// The first `n` words of the places written from `at` on.
-fn put_places(w: &mut [u64], at: usize, places: [u64; 128], n: usize)
-    requires { n ≤ 128 }
-    ensures { w.new ≡ put_places n w.old at places 0 }
+// The places written from `at` on.
+fn put_places(w: &mut [u64], at: usize, places: &[u64])
+    ensures { w.new ≡ put_places (length places.now) w.old at places.now 0 }
 {
-    let mut i: usize = 0;
-    let mut left = n;
-    while 0 < left {
-        words::put_in(w, at, i, places[i]);
-        i += 1;
-        left -= 1;
+    for (i, &place) in places.iter().enumerate() {
+        words::put_in(w, at, i, place);
     }
 }
 
 // The words of a thread's wait beside its places.
-fn put_terms(w: &mut [u64], id: u64, x: Wait)
-    ensures { w.new ≡ put_terms w.old id x }
+fn put_terms(w: &mut [u64], id: u64, x: &Wait)
+    ensures { w.new ≡ put_terms w.old id x.now }
 {
     let at = layout::thread_at(id);
     words::put_in(w, at, layout::WAIT_ALL, x.all);
@@ -170,10 +151,8 @@ pub fn write_wait(w: &mut [u64], id: u64, x: Wait)
     requires { x.count ≤ 64 }
     ensures { w.new ≡ put_wait w.old id x }
 {
-    let places = x.places;
-    let n = x.count as usize;
-    put_terms(w, id, x);
-    put_places(w, places_at(id), places, 2 * n);
+    put_terms(w, id, &x);
+    put_places(w, places_at(id), &x.places[..2 * x.count as usize]);
 }
 
 pub fn no_wait() -> Wait

@@ -1,11 +1,12 @@
-use borrow.Author.Tests.{lt-ltb, le-ltb}
+use native.Mathlib.Omega.{arith}
+use Rattle.std.proofs.lemmas.Grind.{common_steps}
 use Rattle.threads.specs.Thread.{known}
 use Rattle.threads.proofs.is_known.Goals as goal
 
-pub returns-then-id-lt1 : goal.returns-then-id-lt1
+pub returns-then-id-gt0 : goal.returns-then-id-gt0
 unfolding known
-returns-then-id-lt1 c = simp (lt-ltb _ _ c.if-id-lt1.true)
+returns-then-id-gt0 c = grind (arith, common_steps)
 
-pub returns : goal.returns
+pub returns-else-id-gt0 : goal.returns-else-id-gt0
 unfolding known
-returns c = simp (le-ltb _ _ c.if-id-lt1.false) (cc)
+returns-else-id-gt0 c = grind (arith, common_steps)

@@ -1,17 +1,10 @@
 use mathlib.Core.Path.{◌∙◌, sym}
-use native.Mathlib.Omega.{arith}
-use Rattle.threads.proofs.ThreadLaws.{put-none, put-more}
-use borrow.Author.Rules.{rules}
+use Rattle.std.proofs.Common.{rules, length}
+use Rattle.threads.proofs.ThreadLaws.{put-more, put-done}
 use Rattle.threads.proofs.put_places.Goals as goal
 
-pub loop-left-init : goal.loop-left-init
-loop-left-init c = (search rules, search rules, cc)
-
-pub bounds-places-i : goal.bounds-places-i
-bounds-places-i c = omega arith
-
-pub loop-left-preserved : goal.loop-left-preserved
-loop-left-preserved c = (search rules, search rules, cc (put-more c.loop-left.left c.loop-left.w c.args.at c.args.places c.loop-left.i c.loop-left-test.true))
+pub loop-i-preserved : goal.loop-i-preserved
+loop-i-preserved c = (search rules, cc (put-more (length c.args.places.now) c.loop-i.w c.args.at c.args.places.now c.loop-i.i (search rules)))
 
 pub returns : goal.returns
-returns c = sym (put-none _ _ _ _ _ c.loop-left-test.false) ∙ c.loop-left.invariant.2
+returns c = sym (put-done (length c.args.places.now) c.loop-i.w c.args.at c.args.places.now c.loop-i.i (search rules)) ∙ c.loop-i.invariant.1
