@@ -16,7 +16,7 @@ pub const TIMER: u64 = 2;
 pub const THREAD: u64 = 3;
 
 // What a mutex or an event has beside its key. `owner` is 0 for none.
-#[derive(Clone, Copy)]
+#[derive(Clone, Copy, Debug, PartialEq, Eq)]
 pub struct Object {
     pub kind: u64,
     pub manual: u64,
@@ -40,11 +40,7 @@ pub fn dpcs_base(w: &[u64]) -> usize
 pub fn count(w: &[u64]) -> u64
     ensures { result ≡ object_count w.now }
 {
-    let n = words::get(w, layout::OBJECTS);
-    if n <= 4096 {
-        return n;
-    }
-    4096
+    words::get(w, layout::OBJECTS).min(4096)
 }
 
 // Where the record with the key stands, of `n` records from `base` on; 0 where there is none.

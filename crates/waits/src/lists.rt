@@ -24,10 +24,7 @@ fn is_pair(src: &[u64], at: usize, i: usize, kind: u64, key: u64) -> bool
     requires { i ≤ 64 }
     ensures { result ≡ is_pair src.now at i kind key }
 {
-    if key_in(src, at, i) == key {
-        return kind_in(src, at, i) == kind;
-    }
-    false
+    key_in(src, at, i) == key && kind_in(src, at, i) == kind
 }
 
 // Whether one of the pairs from the `from`th on, `n` of them, is this one.
@@ -35,16 +32,7 @@ pub fn has_pair(src: &[u64], at: usize, from: usize, n: usize, kind: u64, key: u
     requires { from + n ≤ 64 }
     ensures { result ≡ has_pair n src.now at from kind key }
 {
-    let mut i = from;
-    let mut left = n;
-    while 0 < left {
-        if is_pair(src, at, i, kind, key) {
-            return true;
-        }
-        i += 1;
-        left -= 1;
-    }
-    false
+    (from..from + n).any(|i| is_pair(src, at, i, kind, key))
 }
 
 // Whether two of the pairs are the same.
@@ -52,23 +40,14 @@ pub fn has_duplicate(src: &[u64], at: usize, n: usize) -> bool
     requires { n ≤ 64 }
     ensures { result ≡ duplicate_in n src.now at 0 }
 {
-    let mut i: usize = 0;
-    let mut left = n;
-    while 0 < left {
-        if has_pair(
-            src,
-            at,
-            i + 1,
-            left - 1,
-            kind_in(src, at, i),
-            key_in(src, at, i),
-        ) {
-            return true;
-        }
-        i += 1;
-        left -= 1;
-    }
-    false
+    (0..n).any(|i| has_pair(
+        src,
+        at,
+        i + 1,
+        n - (i + 1),
+        kind_in(src, at, i),
+        key_in(src, at, i),
+    ))
 }
 
 // Whether one of the pairs has a kind over 3.
@@ -76,16 +55,7 @@ pub fn has_bad_kind(src: &[u64], at: usize, n: usize) -> bool
     requires { n ≤ 64 }
     ensures { result ≡ bad_kind_in n src.now at 0 }
 {
-    let mut i: usize = 0;
-    let mut left = n;
-    while 0 < left {
-        if 3 < kind_in(src, at, i) {
-            return true;
-        }
-        i += 1;
-        left -= 1;
-    }
-    false
+    (0..n).any(|i| 3 < kind_in(src, at, i))
 }
 
 // Whether one of the pairs names no object.
@@ -93,16 +63,7 @@ pub fn has_unknown(w: &[u64], src: &[u64], at: usize, n: usize) -> bool
     requires { n ≤ 64 }
     ensures { result ≡ unknown_in n w.now src.now at 0 }
 {
-    let mut i: usize = 0;
-    let mut left = n;
-    while 0 < left {
-        if !object::is_valid(w, kind_in(src, at, i), key_in(src, at, i)) {
-            return true;
-        }
-        i += 1;
-        left -= 1;
-    }
-    false
+    (0..n).any(|i| !object::is_valid(w, kind_in(src, at, i), key_in(src, at, i)))
 }
 
 // Whether one of the pairs is a mutex that the thread owns.
@@ -110,16 +71,7 @@ pub fn has_owned(w: &[u64], id: u64, src: &[u64], at: usize, n: usize) -> bool
     requires { n ≤ 64 }
     ensures { result ≡ owned_in n w.now id src.now at 0 }
 {
-    let mut i: usize = 0;
-    let mut left = n;
-    while 0 < left {
-        if object::is_owned_by(w, id, kind_in(src, at, i), key_in(src, at, i)) {
-            return true;
-        }
-        i += 1;
-        left -= 1;
-    }
-    false
+    (0..n).any(|i| object::is_owned_by(w, id, kind_in(src, at, i), key_in(src, at, i)))
 }
 
 // Whether every object is available.
@@ -127,16 +79,7 @@ fn every(w: &[u64], src: &[u64], at: usize, n: usize) -> bool
     requires { n ≤ 64 }
     ensures { result ≡ every_in n w.now src.now at 0 }
 {
-    let mut i: usize = 0;
-    let mut left = n;
-    while 0 < left {
-        if !object::is_available(w, kind_in(src, at, i), key_in(src, at, i)) {
-            return false;
-        }
-        i += 1;
-        left -= 1;
-    }
-    true
+    (0..n).all(|i| object::is_available(w, kind_in(src, at, i), key_in(src, at, i)))
 }
 
 // The place of the first available object, or `n`.
@@ -144,16 +87,9 @@ fn first(w: &[u64], src: &[u64], at: usize, n: usize) -> usize
     requires { n ≤ 64 }
     ensures { result ≡ first_in n w.now src.now at 0 }
 {
-    let mut i: usize = 0;
-    let mut left = n;
-    while 0 < left {
-        if object::is_available(w, kind_in(src, at, i), key_in(src, at, i)) {
-            return i;
-        }
-        i += 1;
-        left -= 1;
-    }
-    i
+    (0..n)
+        .find(|&i| object::is_available(w, kind_in(src, at, i), key_in(src, at, i)))
+        .unwrap_or(n)
 }
 
 // Whether a wait for any (`all` is 0) or all of the objects can be granted.
@@ -183,12 +119,8 @@ fn take_list(w: &mut [u64], id: u64, src: &[u64], n: usize)
     requires { n ≤ 64 }
     ensures { w.new ≡ taken_list n w.old id src.now 0 }
 {
-    let mut i: usize = 0;
-    let mut left = n;
-    while 0 < left {
+    for i in 0..n {
         object::take(w, id, kind_in(src, 0, i), key_in(src, 0, i));
-        i += 1;
-        left -= 1;
     }
 }
 
@@ -197,14 +129,10 @@ fn take_own(w: &mut [u64], id: u64, at: usize, n: usize)
     requires { n ≤ 64 }
     ensures { w.new ≡ taken_own n w.old id at 0 }
 {
-    let mut i: usize = 0;
-    let mut left = n;
-    while 0 < left {
+    for i in 0..n {
         let kind = kind_in(w, at, i);
         let key = key_in(w, at, i);
         object::take(w, id, kind, key);
-        i += 1;
-        left -= 1;
     }
 }
 

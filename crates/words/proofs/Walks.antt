@@ -113,6 +113,16 @@ found_from_walk p walk hit miss none step u f r a b n ran e l k =
     ap (λ o. unwrap_or (option_map hit o) (miss (a + n))) (sym (option_map_id r) ∙ find_from_yields_List p u f r ran (YieldsList-from_range a b n e l) k)
     ∙ find_places p walk hit miss none step n a
 
+-- `find` and `unwrap_or`, where the definition answers the first place that passes, and else the end
+pub place_from_walk : {F : Type 0} {g : Mut F (Bor ℕ × Unit {0}) Bool} {s : Range ℕ} (p : ℕ → Bool) (walk : ℕ → ℕ → ℕ)
+    → ((i : ℕ) → walk zero i ≡ i) → ((m i : ℕ) → walk (suc m) i ≡ cond (p i) i (walk m (i + 1)))
+    → (u : Range ℕ) (f : F) (r : Option ℕ) (a b n end : ℕ)
+    → (xs : List ℕ) × (j : F) × YieldsThen nat_range_steps s xs r u × FoldsTo (λ p x q. CalledAt g p x false q) f xs j × MatchOption r ⊤ (λ x. (h : F) × CalledAt g j x true h)
+    → s ≡ record { start = a; end = b } → b - a ≡ n → a + n ≡ end → ((x : ℕ) (b : Bool) (q : F) → CalledAt g f x b q → (q ≡ f) × (b ≡ p x)) → unwrap_or r end ≡ walk n a
+place_from_walk p walk none step u f r a b n end ran e l t k =
+    ap (λ o. unwrap_or o end) (sym (option_map_id r)) ∙ ap (λ i. unwrap_or (option_map (λ x. x) r) i) (sym t)
+    ∙ found_from_walk p walk (λ i. i) (λ i. i) none step u f r a b n ran e l k
+
 -- `fold`
 pub fold_from_walk : {F X : Type 0} {g : Mut F (X × (ℕ × Unit {0})) X} {s : Range ℕ} (h : X → ℕ → X) (walk : ℕ → ℕ → X → X)
     → ((i : ℕ) (x : X) → walk zero i x ≡ x) → ((m i : ℕ) (x : X) → walk (suc m) i x ≡ walk m (i + 1) (h x i))

@@ -1,23 +1,15 @@
-use mathlib.Core.Path.{◌≡◌, ◌∙◌, sym}
-use mathlib.Core.Bool.{true, false}
-use Rattle.waits.specs.Lists.{kind_in, key_in}
-use Rattle.waits.proofs.ListLaws.{first-none, first-stop, first_more}
+use native.Mathlib.Omega.{arith}
+use mathlib.Core.Path.{refl, ◌∙◌}
+use Rattle.std.proofs.Common.{rules, tests}
+use Rattle.words.proofs.Walks.{place_from_walk}
 use Rattle.waits.specs.Object.{available}
-use borrow.Author.Rules.{rules}
+use Rattle.waits.specs.Lists.{kind_in, key_in, first_in}
 use Rattle.waits.proofs.lists.first.Goals as goal
 
-pub loop-left-init : goal.loop-left-init
-loop-left-init c = (search rules, cc)
-
-pub returns-then-is_available : goal.returns-then-is_available
-returns-then-is_available c = let t : c.is_available.result ≡ true = c.if-is_available.true in
-    let e : available c.args.w.now (kind_in c.args.src.now c.args.at c.loop-left.i) (key_in c.args.src.now c.args.at c.loop-left.i) ≡ true = cc in
-    sym (first-stop c.loop-left.left c.args.w.now c.args.src.now c.args.at c.loop-left.i c.loop-left-test.true e) ∙ c.loop-left.invariant.1
-
-pub loop-left-preserved : goal.loop-left-preserved
-loop-left-preserved c = let t : c.is_available.result ≡ false = c.if-is_available.false in
-    let e : available c.args.w.now (kind_in c.args.src.now c.args.at c.loop-left.i) (key_in c.args.src.now c.args.at c.loop-left.i) ≡ false = cc in
-    (search rules, cc (first_more c.loop-left.left c.args.w.now c.args.src.now c.args.at c.loop-left.i c.loop-left-test.true e))
-
 pub returns : goal.returns
-returns c = sym (first-none _ _ _ _ _ c.loop-left-test.false) ∙ c.loop-left.invariant.1
+unfolding first_in
+returns c =
+    c.unwrap_or.ensures
+    ∙ place_from_walk (λ i. available c.args.w.now (kind_in c.args.src.now c.args.at i) (key_in c.args.src.now c.args.at i))
+    (λ m i. first_in m c.args.w.now c.args.src.now c.args.at i)
+    (λ i. refl) (λ m i. refl) _ _ _ 0 _ c.args.n c.args.n c.find.ensures.ran refl (omega arith) (omega arith) (λ x b q k. search (rules, tests))

@@ -1,17 +1,14 @@
-use mathlib.Core.Path.{◌∙◌, sym}
 use native.Mathlib.Omega.{arith}
-use Rattle.waits.proofs.ListLaws.{bad-kind-none, bad-kind-stop, bad-kind-more}
-use borrow.Author.Rules.{rules}
+use mathlib.Core.Path.{refl}
+use Rattle.std.proofs.Common.{rules, tests}
+use lib.Dec.{ltb}
+use Rattle.words.proofs.Walks.{any_from_walk}
+use Rattle.waits.specs.Lists.{kind_in, bad_kind_in}
 use Rattle.waits.proofs.lists.has_bad_kind.Goals as goal
 
-pub loop-left-init : goal.loop-left-init
-loop-left-init c = (search rules, cc)
-
-pub returns-then-kind_in-gt3 : goal.returns-then-kind_in-gt3
-returns-then-kind_in-gt3 c = sym (bad-kind-stop c.loop-left.left c.args.src.now c.args.at c.loop-left.i c.loop-left-test.true (omega (arith, c.kind_in.ensures))) ∙ c.loop-left.invariant.1
-
-pub loop-left-preserved : goal.loop-left-preserved
-loop-left-preserved c = (search rules, cc (bad-kind-more c.loop-left.left c.args.src.now c.args.at c.loop-left.i c.loop-left-test.true (omega (arith, c.kind_in.ensures))))
-
 pub returns : goal.returns
-returns c = sym (bad-kind-none _ _ _ _ c.loop-left-test.false) ∙ c.loop-left.invariant.1
+unfolding bad_kind_in
+returns c =
+    any_from_walk (λ i. ltb 3 (kind_in c.args.src.now c.args.at i))
+    (λ m i. bad_kind_in m c.args.src.now c.args.at i)
+    (λ i. refl) (λ m i. refl) _ _ _ 0 _ c.args.n c.any.ensures.ran refl (omega arith) (λ x b q k. search (rules, tests))

@@ -1,23 +1,14 @@
-use mathlib.Core.Path.{◌≡◌, ◌∙◌, sym}
-use mathlib.Core.Bool.{true, false}
-use Rattle.waits.specs.Lists.{kind_in, key_in}
-use Rattle.waits.proofs.ListLaws.{owned-none, owned-stop, owned-more}
+use native.Mathlib.Omega.{arith}
+use mathlib.Core.Path.{refl}
+use Rattle.std.proofs.Common.{rules, tests}
+use Rattle.words.proofs.Walks.{any_from_walk}
 use Rattle.waits.specs.Object.{owned_by}
-use borrow.Author.Rules.{rules}
+use Rattle.waits.specs.Lists.{kind_in, key_in, owned_in}
 use Rattle.waits.proofs.lists.has_owned.Goals as goal
 
-pub loop-left-init : goal.loop-left-init
-loop-left-init c = (search rules, cc)
-
-pub returns-then-is_owned_by : goal.returns-then-is_owned_by
-returns-then-is_owned_by c = let t : c.is_owned_by.result ≡ true = c.if-is_owned_by.true in
-    let e : owned_by c.args.w.now c.args.id (kind_in c.args.src.now c.args.at c.loop-left.i) (key_in c.args.src.now c.args.at c.loop-left.i) ≡ true = cc in
-    sym (owned-stop c.loop-left.left c.args.w.now c.args.id c.args.src.now c.args.at c.loop-left.i c.loop-left-test.true e) ∙ c.loop-left.invariant.1
-
-pub loop-left-preserved : goal.loop-left-preserved
-loop-left-preserved c = let t : c.is_owned_by.result ≡ false = c.if-is_owned_by.false in
-    let e : owned_by c.args.w.now c.args.id (kind_in c.args.src.now c.args.at c.loop-left.i) (key_in c.args.src.now c.args.at c.loop-left.i) ≡ false = cc in
-    (search rules, cc (owned-more c.loop-left.left c.args.w.now c.args.id c.args.src.now c.args.at c.loop-left.i c.loop-left-test.true e))
-
 pub returns : goal.returns
-returns c = sym (owned-none _ _ _ _ _ _ c.loop-left-test.false) ∙ c.loop-left.invariant.1
+unfolding owned_in
+returns c =
+    any_from_walk (λ i. owned_by c.args.w.now c.args.id (kind_in c.args.src.now c.args.at i) (key_in c.args.src.now c.args.at i))
+    (λ m i. owned_in m c.args.w.now c.args.id c.args.src.now c.args.at i)
+    (λ i. refl) (λ m i. refl) _ _ _ 0 _ c.args.n c.any.ensures.ran refl (omega arith) (λ x b q k. search (rules, tests))

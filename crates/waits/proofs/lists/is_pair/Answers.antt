@@ -1,11 +1,12 @@
-use borrow.Author.Tests.{eq-eqb, ne_eqb}
+use native.Mathlib.Omega.{arith}
+use Rattle.std.proofs.lemmas.Grind.{common_steps}
 use Rattle.waits.specs.Lists.{is_pair}
 use Rattle.waits.proofs.lists.is_pair.Goals as goal
 
 pub returns-then-key_in-key : goal.returns-then-key_in-key
 unfolding is_pair
-returns-then-key_in-key c = simp (← c.key_in.ensures, eq-eqb _ _ c.if-key_in-key.true) (cc)
+returns-then-key_in-key c = grind (arith, common_steps)
 
-pub returns : goal.returns
+pub returns-else-key_in-key : goal.returns-else-key_in-key
 unfolding is_pair
-returns c = simp (← c.key_in.ensures, ne_eqb _ _ c.if-key_in-key.false)
+returns-else-key_in-key c = grind (arith, common_steps)

@@ -1,11 +1,7 @@
 use mathlib.Core.Path.{◌≡◌}
-use Prim.Native.Nat.{◌+◌, ◌≤◌}
-use lib.ListN.{length}
+use Prim.Native.Nat.{◌-◌}
 use Rattle.waits.specs.Lists.{taken_list}
 use Rattle.waits.proofs.lists.take_list.Given as goal
 
-abbrev pub invariant-loop-left : goal.invariant-loop-left
-invariant-loop-left l = (l.i + l.left ≤ 64) × (length l.w ≡ length l.initial.w) × (taken_list l.left l.w l.id l.src l.i ≡ taken_list l.n l.initial.w l.id l.src 0)
-
-abbrev pub decreases-loop-left : goal.decreases-loop-left
-decreases-loop-left l = l.left
+abbrev pub invariant-loop-i : goal.invariant-loop-i
+invariant-loop-i l = taken_list (l.n - l.i) l.w l.id l.src l.i ≡ taken_list l.n l.initial.w l.id l.src 0

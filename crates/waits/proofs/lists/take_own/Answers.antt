@@ -1,13 +1,14 @@
-use mathlib.Core.Path.{◌∙◌, sym}
-use Rattle.waits.proofs.ListLaws.{own-none, own-more}
-use borrow.Author.Rules.{rules}
+use mathlib.Core.Path.{refl, sym, ◌∙◌}
+use Rattle.std.proofs.Common.{rules}
+use Rattle.words.proofs.Walks.{walk-more, walk-done}
+use Rattle.waits.specs.Object.{taken}
+use Rattle.waits.specs.Lists.{kind_in, key_in, taken_own}
 use Rattle.waits.proofs.lists.take_own.Goals as goal
 
-pub loop-left-init : goal.loop-left-init
-loop-left-init c = (search rules, search rules, cc)
-
-pub loop-left-preserved : goal.loop-left-preserved
-loop-left-preserved c = (search rules, search rules, cc (own-more c.loop-left.left c.loop-left.w c.args.id c.args.at c.loop-left.i c.loop-left-test.true))
+pub loop-i-preserved : goal.loop-i-preserved
+unfolding taken_own
+loop-i-preserved c = cc (walk-more (λ i w. taken w c.args.id (kind_in w c.args.at i) (key_in w c.args.at i)) (λ m i w. taken_own m w c.args.id c.args.at i) (λ m i w. refl) c.args.n c.loop-i.i c.loop-i.w (search rules))
 
 pub returns : goal.returns
-returns c = sym (own-none _ _ _ _ _ c.loop-left-test.false) ∙ c.loop-left.invariant.2
+unfolding taken_own
+returns c = sym (walk-done (λ m i w. taken_own m w c.args.id c.args.at i) (λ i w. refl) c.args.n c.loop-i.i c.loop-i.w (search rules)) ∙ c.loop-i.invariant
