@@ -10,11 +10,7 @@ use words::layout;
 pub fn count(w: &[u64]) -> u64
     ensures { result ≡ dpc_count w.now }
 {
-    let n = words::get(w, layout::DPCS);
-    if n <= 4096 {
-        return n;
-    }
-    4096
+    words::get(w, layout::DPCS).min(4096)
 }
 
 // The number of the DPC at the address; 0 where there is none.
@@ -106,17 +102,12 @@ fn backing_at(w: &[u64], at: usize) -> TimerBacking
 fn phase_at(w: &[u64], at: usize) -> DpcPhase
     ensures { result ≡ phase_at w.now at }
 {
-    let phase = words::get_in(w, at, layout::PHASE);
-    if phase == 0 {
-        return DpcPhase::Idle;
+    match words::get_in(w, at, layout::PHASE) {
+        0 => DpcPhase::Idle,
+        1 => DpcPhase::Queued(work_at(w, at)),
+        2 => DpcPhase::Running(work_at(w, at)),
+        _ => DpcPhase::Returning(work_at(w, at)),
     }
-    if phase == 1 {
-        return DpcPhase::Queued(work_at(w, at));
-    }
-    if phase == 2 {
-        return DpcPhase::Running(work_at(w, at));
-    }
-    DpcPhase::Returning(work_at(w, at))
 }
 
 // The DPC at place `at`.

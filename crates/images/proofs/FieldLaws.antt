@@ -1,5 +1,5 @@
 -- Laws of bytes at places.
-use Rattle.std.proofs.Common.{◌≡◌, ℕ, zero, suc, ◌+◌, ◌-◌, ◌*◌, ◌/◌, ◌%◌, ◌^◌, ◌<◌, ◌≤◌, ◌⊎◌, List, [], ◌∷◌, ◌++◌, length, get_or, drop, set, replicate, refl, ap, ◌∙◌, inl, inr, ⊎_elim, add-one, arith, length-set, drop-cons, get_or-set_other, get_or-set_same}
+use Rattle.std.proofs.Common.{◌≡◌, ℕ, zero, suc, ◌+◌, ◌-◌, ◌*◌, ◌/◌, ◌%◌, ◌^◌, ◌<◌, ◌≤◌, ◌⊎◌, List, [], ◌∷◌, ◌++◌, length, get_or, drop, take, set, replicate, refl, ap, ◌∙◌, inl, inr, ⊎_elim, add-one, arith, length-set, get_or-set_other, get_or-set_same}
 use lib.Pow.{mod-mod-pow, mod-pow-add, field}
 use lib.Seq.{set_out}
 use Rattle.images.specs.Field.{Field, placed, little, number, laid}
@@ -14,21 +14,38 @@ unfolding placed
 placed-out [] p out h = refl
 placed-out (b ∷ bs) p out h = rw (set_out out p b h) (placed-out bs (suc p) out (omega arith))
 
-pub bytes-none : (p i : ℕ) (bs out : List ℕ) → length bs ≤ i → placed p (drop i bs) out ≡ out
+-- the bytes that fit
+placed-cons : (bs : List ℕ) (p x : ℕ) (out : List ℕ) → placed (suc p) bs (x ∷ out) ≡ x ∷ placed p bs out
 unfolding placed
-bytes-none p zero [] out h = refl
-bytes-none p (suc i) [] out h = refl
-bytes-none p zero (b ∷ bs) out h = absurd (omega arith)
-bytes-none p (suc i) (b ∷ bs) out h = bytes-none p i bs out (omega arith)
+placed-cons [] p x out = refl
+placed-cons (b ∷ bs) p x out = placed-cons bs (suc p) x (set out p b)
 
-pub bytes-more : (p i : ℕ) (bs out : List ℕ) → i < length bs → placed p (drop i bs) out ≡ placed (p + 1) (drop (i + 1) bs) (set out p (get_or bs i 0))
+placed-start : (bs out : List ℕ) → length bs ≤ length out → placed 0 bs out ≡ bs ++ drop (length bs) out
 unfolding placed
-bytes-more p i bs out h = rw (drop-cons bs i 0 h, add-one p, add-one i)
+placed-start [] out h = refl
+placed-start (b ∷ bs) [] h = absurd (omega arith)
+placed-start (b ∷ bs) (x ∷ out) h = placed-cons bs 0 b out ∙ ap (λ (l : List ℕ). b ∷ l) (placed-start bs out (omega arith))
 
-pub number-none : (p k n : ℕ) (out : List ℕ) → k ≤ 0 → placed p (little k n) out ≡ out
+pub placed-mid : (p : ℕ) (bs out : List ℕ) → p + length bs ≤ length out → placed p bs out ≡ take p out ++ (bs ++ drop (length bs) (drop p out))
+placed-mid zero bs out h = placed-start bs out (omega arith)
+placed-mid (suc p) bs [] h = absurd (omega arith)
+placed-mid (suc p) bs (x ∷ out) h = placed-cons bs p x out ∙ ap (λ (l : List ℕ). x ∷ l) (placed-mid p bs out (omega arith))
+
+pub placed-cut : (bs : List ℕ) (p n : ℕ) (out : List ℕ) → ((k : ℕ) → k < length bs → p + k < length out → k < n) → placed p bs out ≡ placed p (take n bs) out
+unfolding placed
+placed-cut [] p zero out h = refl
+placed-cut [] p (suc n) out h = refl
+placed-cut (b ∷ bs) p zero out h = placed-out (b ∷ bs) p out (short (λ l. omega (arith, h 0 (omega arith) (omega (arith, l)))))
+  where
+    short : (p < length out → ⊥) → length out ≤ p
+    short n = grind arith
+placed-cut (b ∷ bs) p (suc n) out h =
+    placed-cut bs (suc p) n (set out p b) (λ k l m. let j = h (suc k) (omega arith) (omega (arith, length-set out p b)) in omega arith)
+
+pub number-end : (p k n : ℕ) (out : List ℕ) → (0 < k → length out ≤ p) → placed p (little k n) out ≡ out
 unfolding placed little
-number-none p zero n out h = refl
-number-none p (suc k) n out h = absurd (omega arith)
+number-end p zero n out h = refl
+number-end p (suc k) n out h = placed-out (little (suc k) n) p out (h (omega arith))
 
 pub number_more : (p k n : ℕ) (out : List ℕ) → 0 < k → placed p (little k n) out ≡ placed (p + 1) (little (k - 1) (n / 256)) (set out p (n % 256))
 unfolding placed little

@@ -6,15 +6,9 @@ ghost use Rattle.images.specs.Field.{placed, little};
 pub fn put_bytes(out: &mut [u8], at: usize, bytes: &[u8])
     ensures { out.new ≡ placed at bytes.now out.old }
 {
-    let mut place = at;
-    let mut i: usize = 0;
-    while i < bytes.len() {
-        if out.len() <= place {
-            return;
-        }
-        out[place] = bytes[i];
-        place += 1;
-        i += 1;
+    if at < out.len() {
+        let n = bytes.len().min(out.len() - at);
+        out[at..at + n].copy_from_slice(&bytes[..n]);
     }
 }
 
@@ -22,17 +16,11 @@ pub fn put_bytes(out: &mut [u8], at: usize, bytes: &[u8])
 pub fn put_number(out: &mut [u8], at: usize, count: usize, n: u64)
     ensures { out.new ≡ placed at (little count n) out.old }
 {
-    let mut place = at;
-    let mut left = count;
+    let end = out.len().min(at.saturating_add(count));
     let mut rest = n;
-    while 0 < left {
-        if out.len() <= place {
-            return;
-        }
+    for place in at..end {
         out[place] = (rest % 256) as u8;
-        rest = rest / 256;
-        place += 1;
-        left -= 1;
+        rest /= 256;
     }
 }
 

@@ -1,15 +1,18 @@
-use Rattle.std.proofs.Common.{sym, refl, ◌∙◌, arith, rules}
-use Rattle.images.proofs.FieldLaws.{placed-out, bytes-none, bytes-more}
+use Rattle.std.proofs.Common.{sym, ◌≡◌, ◌+◌, ◌-◌, arith, rules, take, length}
+use Rattle.std.proofs.lemmas.Grind.{common_steps}
+use Rattle.images.proofs.FieldLaws.{placed-out, placed-mid, placed-cut}
 use Rattle.images.proofs.field.put_bytes.Goals as goal
 
-pub loop-i-init : goal.loop-i-init
-loop-i-init c = (omega arith, refl, refl)
+pub returns-then-at-out : goal.returns-then-at-out
+returns-then-at-out c =
+    let n : length (take c.min-n.result c.args.bytes.now) ≡ c.min-n.result = grind (arith, common_steps) in
+    let k : c.args.at + c.min-n.result - c.args.at ≡ c.min-n.result = omega arith in
+    cc (
+      n,
+      k,
+      placed-cut c.args.bytes.now c.args.at c.min-n.result c.args.out.now (λ i l m. grind (arith, common_steps)),
+      placed-mid c.args.at (take c.min-n.result c.args.bytes.now) c.args.out.now (grind (arith, common_steps, n)),
+    )
 
-pub returns-then-out-place : goal.returns-then-out-place
-returns-then-out-place c = sym (placed-out _ _ _ c.if-out-place.true) ∙ c.loop-i.invariant.2
-
-pub loop-i-preserved : goal.loop-i-preserved
-loop-i-preserved c = (omega arith, search rules, sym (bytes-more c.loop-i.place c.loop-i.i c.args.bytes.now c.loop-i.out c.loop-i-test.true) ∙ c.loop-i.invariant.2)
-
-pub returns : goal.returns
-returns c = sym (bytes-none _ _ _ _ c.loop-i-test.false) ∙ c.loop-i.invariant.2
+pub returns-else-at-out : goal.returns-else-at-out
+returns-else-at-out c = sym (placed-out c.args.bytes.now c.args.at c.args.out.now (search rules))
