@@ -20,7 +20,7 @@ unfolding placed
 placed-cons [] p x out = refl
 placed-cons (b ∷ bs) p x out = placed-cons bs (suc p) x (set out p b)
 
-placed-start : (bs out : List ℕ) → length bs ≤ length out → placed 0 bs out ≡ bs ++ drop (length bs) out
+pub placed-start : (bs out : List ℕ) → length bs ≤ length out → placed 0 bs out ≡ bs ++ drop (length bs) out
 unfolding placed
 placed-start [] out h = refl
 placed-start (b ∷ bs) [] h = absurd (omega arith)

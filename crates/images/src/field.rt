@@ -28,5 +28,6 @@ pub fn put_number(out: &mut [u8], at: usize, count: usize, n: u64)
 pub fn clear(out: &mut [u8], count: usize)
     ensures { out.new ≡ placed 0 (replicate count 0) out.old }
 {
-    put_number(out, 0, count, 0);
+    let n = out.len().min(count);
+    out[..n].fill(0);
 }

@@ -29,27 +29,43 @@ ghost use Rattle.images.specs.Image.{timer_head, timer_links, timer_times, timer
 
 use arch::Architecture;
 
-// A row for each architecture, x64 and x86: a timer's size and where its due time and its DPC stand, a DPC's size and where
-// its routine and its arguments stand.
-const OFFSETS: [[u64; 6]; 2] = [[64, 24, 48, 64, 24, 40], [40, 16, 32, 32, 12, 20]];
+// What differs between the architectures: a timer's size and where its due time and its DPC stand, a DPC's size and where its
+// routine and its arguments stand.
+#[derive(Clone, Copy, Debug, PartialEq, Eq)]
+pub struct Offsets {
+    pub timer_size: u64,
+    pub due: u64,
+    pub timer_dpc: u64,
+    pub dpc_size: u64,
+    pub routine: u64,
+    pub arguments: u64,
+}
 
-const TIMER_SIZE: usize = 0;
-
-const DUE: usize = 1;
-
-const TIMER_DPC: usize = 2;
-
-const DPC_SIZE: usize = 3;
-
-const ROUTINE: usize = 4;
-
-const ARGUMENTS: usize = 5;
+// A row for each architecture, x64 and x86.
+const OFFSETS: [Offsets; 2] = [
+    Offsets {
+        timer_size: 64,
+        due: 24,
+        timer_dpc: 48,
+        dpc_size: 64,
+        routine: 24,
+        arguments: 40,
+    },
+    Offsets {
+        timer_size: 40,
+        due: 16,
+        timer_dpc: 32,
+        dpc_size: 32,
+        routine: 12,
+        arguments: 20,
+    },
+];
 
 // What opens every DPC's image.
 pub const DPC_HEAD: [u8; 2] = *b"\x13\x01";
 
 // The memory that a timer or a DPC stands in.
-#[derive(Clone, Copy)]
+#[derive(Clone, Copy, Debug, PartialEq, Eq)]
 pub enum TimerBacking {
     Image {
         base: u64,
@@ -62,7 +78,7 @@ pub enum TimerBacking {
     },
 }
 
-#[derive(Clone, Copy)]
+#[derive(Clone, Copy, Debug, PartialEq, Eq)]
 pub struct Timer {
     pub address: u64,
     pub architecture: Architecture,
@@ -79,7 +95,7 @@ pub struct Timer {
 }
 
 // Who put a DPC's work into the queue.
-#[derive(Clone, Copy)]
+#[derive(Clone, Copy, Debug, PartialEq, Eq)]
 pub enum DpcOrigin {
     Caller,
     Timer {
@@ -92,7 +108,7 @@ pub enum DpcOrigin {
     },
 }
 
-#[derive(Clone, Copy)]
+#[derive(Clone, Copy, Debug, PartialEq, Eq)]
 pub struct DpcWork {
     pub sequence: u64,
     pub first: u64,
@@ -100,7 +116,7 @@ pub struct DpcWork {
     pub origin: DpcOrigin,
 }
 
-#[derive(Clone, Copy)]
+#[derive(Clone, Copy, Debug, PartialEq, Eq)]
 pub enum DpcPhase {
     Idle,
     Queued(DpcWork),
@@ -108,7 +124,7 @@ pub enum DpcPhase {
     Returning(DpcWork),
 }
 
-#[derive(Clone, Copy)]
+#[derive(Clone, Copy, Debug, PartialEq, Eq)]
 pub struct Dpc {
     pub address: u64,
     pub architecture: Architecture,
@@ -132,9 +148,10 @@ pub fn architecture_of(n: u64) -> Architecture
     ensures { result ≡ architecture_of n }
 {
     if n == 0 {
-        return Architecture::X64;
+        Architecture::X64
+    } else {
+        Architecture::X86
     }
-    Architecture::X86
 }
 
 // What a backing is kept as: its kind (0 image, 1 pool), its base, its size (of a pool: the bytes asked for) and the bytes
@@ -143,12 +160,8 @@ pub fn backing_kind(b: TimerBacking) -> u64
     ensures { result ≡ backing_kind b }
 {
     match b {
-        TimerBacking::Image { base: _, size: _ } => 0,
-        TimerBacking::NonpagedPool {
-            base: _,
-            requested: _,
-            mapped: _,
-        } => 1,
+        TimerBacking::Image { .. } => 0,
+        TimerBacking::NonpagedPool { .. } => 1,
     }
 }
 
@@ -156,12 +169,7 @@ pub fn backing_base(b: TimerBacking) -> u64
     ensures { result ≡ backing_base b }
 {
     match b {
-        TimerBacking::Image { base, size: _ } => base,
-        TimerBacking::NonpagedPool {
-            base,
-            requested: _,
-            mapped: _,
-        } => base,
+        TimerBacking::Image { base, .. } | TimerBacking::NonpagedPool { base, .. } => base,
     }
 }
 
@@ -169,12 +177,8 @@ pub fn backing_size(b: TimerBacking) -> u64
     ensures { result ≡ backing_size b }
 {
     match b {
-        TimerBacking::Image { base: _, size } => size,
-        TimerBacking::NonpagedPool {
-            base: _,
-            requested,
-            mapped: _,
-        } => requested,
+        TimerBacking::Image { size, .. } => size,
+        TimerBacking::NonpagedPool { requested, .. } => requested,
     }
 }
 
@@ -182,12 +186,8 @@ pub fn backing_mapped(b: TimerBacking) -> u64
     ensures { result ≡ backing_mapped b }
 {
     match b {
-        TimerBacking::Image { base: _, size: _ } => 0,
-        TimerBacking::NonpagedPool {
-            base: _,
-            requested: _,
-            mapped,
-        } => mapped,
+        TimerBacking::Image { .. } => 0,
+        TimerBacking::NonpagedPool { mapped, .. } => mapped,
     }
 }
 
@@ -195,12 +195,13 @@ pub fn backing_of(kind: u64, base: u64, size: u64, mapped: u64) -> TimerBacking
     ensures { result ≡ backing_of «kind» «base» «size» «mapped» }
 {
     if kind == 0 {
-        return TimerBacking::Image { base, size };
-    }
-    TimerBacking::NonpagedPool {
-        base,
-        requested: size,
-        mapped,
+        TimerBacking::Image { base, size }
+    } else {
+        TimerBacking::NonpagedPool {
+            base,
+            requested: size,
+            mapped,
+        }
     }
 }
 
@@ -209,55 +210,37 @@ pub fn is_short(b: TimerBacking) -> bool
     ensures { result ≡ is_short b }
 {
     match b {
-        TimerBacking::Image { base: _, size: _ } => false,
+        TimerBacking::Image { .. } => false,
         TimerBacking::NonpagedPool {
-            base: _,
             requested,
             mapped,
+            ..
         } => mapped < requested,
     }
+}
+
+// The row of an architecture.
+pub fn offsets_of(a: Architecture) -> Offsets
+    ensures timer_size { result.timer_size ≡ timer_size a }
+    ensures due { result.due ≡ due_at a }
+    ensures timer_dpc { result.timer_dpc ≡ timer_dpc_at a }
+    ensures dpc_size { result.dpc_size ≡ dpc_size a }
+    ensures routine { result.routine ≡ routine_at a }
+    ensures arguments { result.arguments ≡ arguments_at a }
+{
+    OFFSETS[architecture_number(a) as usize]
 }
 
 pub fn timer_size(a: Architecture) -> u64
     ensures { result ≡ timer_size a }
 {
-    let row = architecture_number(a) as usize;
-    OFFSETS[row][TIMER_SIZE]
-}
-
-pub fn due_at(a: Architecture) -> u64
-    ensures { result ≡ due_at a }
-{
-    let row = architecture_number(a) as usize;
-    OFFSETS[row][DUE]
-}
-
-pub fn timer_dpc_at(a: Architecture) -> u64
-    ensures { result ≡ timer_dpc_at a }
-{
-    let row = architecture_number(a) as usize;
-    OFFSETS[row][TIMER_DPC]
+    offsets_of(a).timer_size
 }
 
 pub fn dpc_size(a: Architecture) -> u64
     ensures { result ≡ dpc_size a }
 {
-    let row = architecture_number(a) as usize;
-    OFFSETS[row][DPC_SIZE]
-}
-
-pub fn routine_at(a: Architecture) -> u64
-    ensures { result ≡ routine_at a }
-{
-    let row = architecture_number(a) as usize;
-    OFFSETS[row][ROUTINE]
-}
-
-pub fn arguments_at(a: Architecture) -> u64
-    ensures { result ≡ arguments_at a }
-{
-    let row = architecture_number(a) as usize;
-    OFFSETS[row][ARGUMENTS]
+    offsets_of(a).dpc_size
 }
 
 // The `n` bytes at `a` and the `m` bytes at `b` have a byte in common.
@@ -314,7 +297,7 @@ pub fn location_refusal(address: u64, size: u64, a: Architecture, b: TimerBackin
     if is_short(b) {
         return 15;
     }
-    if address % arch::width(a) != 0 {
+    if address % a.width() != 0 {
         return 15;
     }
     let end = address + size;
@@ -327,13 +310,11 @@ pub fn location_refusal(address: u64, size: u64, a: Architecture, b: TimerBackin
     0
 }
 
+// A function of its own, since what an `if` in an argument gives is not known at the calls after it.
 fn pick(b: bool, yes: u64, no: u64) -> u64
     ensures { result ≡ (if b then yes else no) }
 {
-    if b {
-        return yes;
-    }
-    no
+    if b { yes } else { no }
 }
 
 // The first eight bytes of a timer.
@@ -353,7 +334,7 @@ fn put_timer_links(out: &mut [u8], t: Timer)
     ensures { out.new ≡ laid (timer_links t) out.old }
 {
     let a = t.architecture;
-    let width = arch::width(a) as usize;
+    let width = a.width() as usize;
     let list = std::num::wrapping_add_u64(t.address, 8);
     field::put_number(out, 8, width, list);
     field::put_number(out, 8 + width, width, list);
@@ -364,14 +345,10 @@ fn put_timer_times(out: &mut [u8], t: Timer)
     ensures { out.new ≡ laid (timer_times t) out.old }
 {
     let a = t.architecture;
-    field::put_number(out, due_at(a) as usize, 8, t.due);
-    field::put_number(
-        out,
-        timer_dpc_at(a) as usize,
-        arch::width(a) as usize,
-        t.dpc,
-    );
-    field::put_number(out, (timer_size(a) - 4) as usize, 4, t.period_ms);
+    let row = offsets_of(a);
+    field::put_number(out, row.due as usize, 8, t.due);
+    field::put_number(out, row.timer_dpc as usize, a.width() as usize, t.dpc);
+    field::put_number(out, (row.timer_size - 4) as usize, 4, t.period_ms);
 }
 
 // A timer's bytes, at the start of `out`; nothing where it is too short for them.
@@ -394,7 +371,7 @@ fn put_two(out: &mut [u8], a: Architecture, at: usize, first: u64, second: u64)
     requires { at ≤ 64 }
     ensures { out.new ≡ laid (two_words a at first second) out.old }
 {
-    let width = arch::width(a) as usize;
+    let width = a.width() as usize;
     field::put_number(out, at, width, first);
     field::put_number(out, at + width, width, second);
 }
@@ -403,7 +380,7 @@ fn put_two(out: &mut [u8], a: Architecture, at: usize, first: u64, second: u64)
 fn put_work(out: &mut [u8], a: Architecture, w: DpcWork)
     ensures { out.new ≡ laid (work_fields a w) out.old }
 {
-    put_two(out, a, arguments_at(a) as usize, w.first, w.second);
+    put_two(out, a, offsets_of(a).arguments as usize, w.first, w.second);
 }
 
 fn put_phase(out: &mut [u8], a: Architecture, p: DpcPhase)
@@ -411,9 +388,7 @@ fn put_phase(out: &mut [u8], a: Architecture, p: DpcPhase)
 {
     match p {
         DpcPhase::Idle => {}
-        DpcPhase::Queued(w) => put_work(out, a, w),
-        DpcPhase::Running(w) => put_work(out, a, w),
-        DpcPhase::Returning(w) => put_work(out, a, w),
+        DpcPhase::Queued(w) | DpcPhase::Running(w) | DpcPhase::Returning(w) => put_work(out, a, w),
     }
 }
 
@@ -422,13 +397,13 @@ pub fn dpc_bytes(d: Dpc, out: &mut [u8])
     ensures { out.new ≡ dpc_image d out.old }
 {
     let a = d.architecture;
-    let p = d.phase;
-    let size = dpc_size(a) as usize;
+    let row = offsets_of(a);
+    let size = row.dpc_size as usize;
     if out.len() < size {
         return;
     }
     field::clear(out, size);
     field::put_bytes(out, 0, &DPC_HEAD);
-    put_two(out, a, routine_at(a) as usize, d.routine, d.context);
-    put_phase(out, a, p);
+    put_two(out, a, row.routine as usize, d.routine, d.context);
+    put_phase(out, a, d.phase);
 }

@@ -6,6 +6,6 @@ pub returns-then-kind-eq0 : goal.returns-then-kind-eq0
 unfolding backing_of
 returns-then-kind-eq0 c = simp (eq-eqb _ _ c.if-kind-eq0.true)
 
-pub returns : goal.returns
+pub returns-else-kind-eq0 : goal.returns-else-kind-eq0
 unfolding backing_of
-returns c = simp (ne_eqb _ _ c.if-kind-eq0.false)
+returns-else-kind-eq0 c = simp (ne_eqb _ _ c.if-kind-eq0.false)

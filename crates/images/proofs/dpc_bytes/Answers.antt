@@ -7,11 +7,11 @@ use Rattle.images.proofs.dpc_bytes.Goals as goal
 
 pub returns-then-out-size : goal.returns-then-out-size
 unfolding dpc_image image
-returns-then-out-size c = simp (← c.dpc_size-size.ensures, lt-ltb _ _ c.if-out-size.true)
+returns-then-out-size c = simp (← c.offsets_of-row.ensures.dpc_size, lt-ltb _ _ c.if-out-size.true)
 
 pub put_two-requires : goal.put_two-requires
-put_two-requires c = omega (arith, c.routine_at.ensures, (shape c.args.d.architecture).routines, (shape c.args.d.architecture).works, (shape c.args.d.architecture).deferreds)
+put_two-requires c = omega (arith, c.offsets_of-row.ensures.routine, (shape c.args.d.architecture).routines, (shape c.args.d.architecture).works, (shape c.args.d.architecture).deferreds)
 
 pub returns : goal.returns
 unfolding dpc_image image dpc_fields dpc_head laid
-returns c = simp (← c.dpc_size-size.ensures, le-ltb _ _ c.if-out-size.false, laid_both) (cc)
+returns c = simp (← c.offsets_of-row.ensures.dpc_size, le-ltb _ _ c.if-out-size.false, laid_both) (cc)

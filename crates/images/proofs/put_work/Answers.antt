@@ -4,7 +4,7 @@ use Rattle.images.proofs.PlaceLaws.{shape}
 use Rattle.images.proofs.put_work.Goals as goal
 
 pub put_two-requires : goal.put_two-requires
-put_two-requires c = omega (arith, c.arguments_at.ensures, (shape c.args.a).works, (shape c.args.a).deferreds)
+put_two-requires c = omega (arith, c.offsets_of.ensures.arguments, (shape c.args.a).works, (shape c.args.a).deferreds)
 
 pub returns : goal.returns
 unfolding work_fields
