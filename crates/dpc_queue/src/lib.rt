@@ -5,19 +5,11 @@ ghost use Rattle.std.specs.Prelude.{◌≡◌};
 ghost use Rattle.dpc_queue.specs.Queue.{raised, origin_put, work_put, queued, accepted, withdrawn};
 
 use dpcs::record;
+pub use dpcs::record::{IDLE, QUEUED, RETURNING, RUNNING};
 use words::layout;
 
-// The phases of a DPC.
-pub const IDLE: u64 = 0;
-
-pub const QUEUED: u64 = 1;
-
-pub const RUNNING: u64 = 2;
-
-pub const RETURNING: u64 = 3;
-
 // Who puts the work into the queue: `timer` is 0 for a caller, whose other words are 0, and 1 for a timer.
-#[derive(Clone, Copy)]
+#[derive(Clone, Copy, Debug, PartialEq, Eq)]
 pub struct Origin {
     pub timer: u64,
     pub address: u64,

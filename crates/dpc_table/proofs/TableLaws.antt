@@ -10,22 +10,11 @@ use borrow.Author.Tests.{eq-eqb, ne_eqb}
 use Rattle.words.specs.Layout as at
 use Rattle.words.specs.Layout.{entry_at}
 use Rattle.chains.specs.declared.Chain.{Chain}
-use Rattle.chains.specs.Chain.{link_at, next_of}
-use Rattle.dpc_table.specs.Table.{number_raised, links_raised_in, number_put, number_to, numbered_in, link_renewed, links_renewed_in}
+use Rattle.chains.specs.Chain.{next_of}
+use Rattle.dpc_table.specs.Table.{number_put, number_to, numbered_in, link_renewed, links_renewed_in}
 
 less_one : (k : ℕ) → suc k - 1 ≡ k
 less_one k = omega arith
-
-pub raised-none : (m : ℕ) (w : List ℕ) (c : Chain) (k i : ℕ) → m ≤ 0 → links_raised_in m w c k i ≡ w
-unfolding links_raised_in
-raised-none zero w c k i h = refl
-raised-none (suc m) w c k i h = absurd (omega arith)
-
-pub raised-more : (m : ℕ) (w : List ℕ) (c : Chain) (k i : ℕ) → 0 < m
-    → links_raised_in m w c k i ≡ links_raised_in (m - 1) (number_raised w (link_at c k) i) c (k + 1) i
-unfolding links_raised_in
-raised-more zero w c k i h = absurd (omega arith)
-raised-more (suc m) w c k i h = simp (less_one m)
 
 pub number-most : (w : List ℕ) (place last : ℕ) → number_to w place last ≤ last + 1
 unfolding number_to

@@ -10,7 +10,7 @@ use dpcs::record;
 use words::layout;
 
 // What a new DPC has beside its address, as the words of a record.
-#[derive(Clone, Copy)]
+#[derive(Clone, Copy, Debug, PartialEq, Eq)]
 pub struct NewDpc {
     pub architecture: u64,
     pub backing: u64,
@@ -29,7 +29,7 @@ fn put_idle(w: &mut [u64], at: usize, address: u64)
     ensures { w.new ≡ put_idle w.old at address }
 {
     words::put(w, at, address);
-    words::put_in(w, at, layout::PHASE, 0);
+    words::put_in(w, at, layout::PHASE, record::IDLE);
     words::put_in(w, at, layout::NEXT_QUEUED, 0);
     words::put_in(w, at, layout::NAMED_BY, 0);
 }
@@ -79,12 +79,8 @@ fn raise_links(w: &mut [u64], n: u64, position: u64)
     ensures { w.new ≡ links_raised w.old n position }
 {
     let c = record::queue_chain(w);
-    let mut k: u64 = 0;
-    let mut left = n + 1;
-    while 0 < left {
+    for k in 0..n + 1 {
         raise_number(w, chains::link_at(c, k), position);
-        k += 1;
-        left -= 1;
     }
     raise_number(w, layout::QUEUE_LAST, position);
 }
@@ -134,13 +130,9 @@ fn number(w: &mut [u64])
     ensures { w.new ≡ numbered w.old }
 {
     let base = objects::dpcs_base(w);
-    let mut i: u64 = 0;
     let mut last: u64 = 0;
-    let mut left = record::count(w);
-    while 0 < left {
+    for i in 0..record::count(w) {
         last = number_one(w, layout::entry_at(base, i), last);
-        i += 1;
-        left -= 1;
     }
 }
 
@@ -169,13 +161,11 @@ fn renew_links(w: &mut [u64], c: Chain)
     ensures { w.new ≡ links_renewed w.old c }
 {
     let mut before: u64 = 0;
-    let mut left: usize = 4097;
-    while 0 < left {
+    for _passed in 0..4097u32 {
         before = renew_link(w, c, before);
         if before == 0 {
             return;
         }
-        left -= 1;
     }
 }
 

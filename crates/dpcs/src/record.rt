@@ -6,6 +6,15 @@ use chains::Chain;
 use images::{Dpc, DpcOrigin, DpcPhase, DpcWork, TimerBacking};
 use words::layout;
 
+// The phases of a DPC.
+pub const IDLE: u64 = 0;
+
+pub const QUEUED: u64 = 1;
+
+pub const RUNNING: u64 = 2;
+
+pub const RETURNING: u64 = 3;
+
 // How many DPCs there are, at most 4096.
 pub fn count(w: &[u64]) -> u64
     ensures { result ≡ dpc_count w.now }
@@ -103,9 +112,9 @@ fn phase_at(w: &[u64], at: usize) -> DpcPhase
     ensures { result ≡ phase_at w.now at }
 {
     match words::get_in(w, at, layout::PHASE) {
-        0 => DpcPhase::Idle,
-        1 => DpcPhase::Queued(work_at(w, at)),
-        2 => DpcPhase::Running(work_at(w, at)),
+        IDLE => DpcPhase::Idle,
+        QUEUED => DpcPhase::Queued(work_at(w, at)),
+        RUNNING => DpcPhase::Running(work_at(w, at)),
         _ => DpcPhase::Returning(work_at(w, at)),
     }
 }

@@ -5,15 +5,8 @@ ghost use Rattle.form_dpc.specs.Dpc.{dpc_placed, names_no_timer, origin_passes, 
 
 use super::timer;
 use dpcs::record;
+pub use dpcs::record::{IDLE, QUEUED, RETURNING, RUNNING};
 use words::layout;
-
-pub const IDLE: u64 = 0;
-
-pub const QUEUED: u64 = 1;
-
-pub const RUNNING: u64 = 2;
-
-pub const RETURNING: u64 = 3;
 
 fn location_passes(w: &[u64], at: usize) -> bool
     ensures { result ≡ dpc_placed w.now at }

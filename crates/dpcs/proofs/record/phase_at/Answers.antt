@@ -1,19 +1,20 @@
-use borrow.Author.Tests.{eq-eqb, ne_eqb}
+use native.Mathlib.Omega.{arith}
+use Rattle.std.proofs.lemmas.Grind.{common_steps}
 use Rattle.dpcs.specs.Record.{phase_at}
 use Rattle.dpcs.proofs.record.phase_at.Goals as goal
 
-pub returns-then-phase-eq0 : goal.returns-then-phase-eq0
+pub returns-in-0 : goal.returns-in-0
 unfolding phase_at
-returns-then-phase-eq0 c = simp (← c.get_in-phase.ensures, eq-eqb _ _ c.if-phase-eq0.true)
+returns-in-0 c = simp (← c.get_in.ensures, c.in-0.is)
 
-pub returns-then-phase-eq1 : goal.returns-then-phase-eq1
+pub returns-in-1 : goal.returns-in-1
 unfolding phase_at
-returns-then-phase-eq1 c = simp (← c.get_in-phase.ensures, ne_eqb _ _ c.if-phase-eq0.false, eq-eqb _ _ c.if-phase-eq1.true) (cc)
+returns-in-1 c = simp (← c.get_in.ensures, c.in-1.is) (cc)
 
-pub returns-then-phase-eq2 : goal.returns-then-phase-eq2
+pub returns-in-2 : goal.returns-in-2
 unfolding phase_at
-returns-then-phase-eq2 c = simp (← c.get_in-phase.ensures, ne_eqb _ _ c.if-phase-eq0.false, ne_eqb _ _ c.if-phase-eq1.false, eq-eqb _ _ c.if-phase-eq2.true) (cc)
+returns-in-2 c = simp (← c.get_in.ensures, c.in-2.is) (cc)
 
-pub returns : goal.returns
+pub returns-in_default : goal.returns-in_default
 unfolding phase_at
-returns c = simp (← c.get_in-phase.ensures, ne_eqb _ _ c.if-phase-eq0.false, ne_eqb _ _ c.if-phase-eq1.false, ne_eqb _ _ c.if-phase-eq2.false) (cc)
+returns-in_default c = grind (arith, common_steps)
