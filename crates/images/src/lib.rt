@@ -134,14 +134,11 @@ pub struct Dpc {
     pub phase: DpcPhase,
 }
 
-// The row of an architecture, and the number that stands for it in the words.
+// The row of an architecture, and the number that stands for it in the words. No From: a word may be any number.
 pub fn architecture_number(a: Architecture) -> u64
     ensures { result ≡ architecture_number a }
 {
-    match a {
-        Architecture::X64 => 0,
-        Architecture::X86 => 1,
-    }
+    a as u64
 }
 
 pub fn architecture_of(n: u64) -> Architecture
@@ -155,7 +152,7 @@ pub fn architecture_of(n: u64) -> Architecture
 }
 
 // What a backing is kept as: its kind (0 image, 1 pool), its base, its size (of a pool: the bytes asked for) and the bytes
-// mapped (of an image: 0).
+// mapped (of an image: 0). One function for each: a record has its words apart, and is read and written word by word.
 pub fn backing_kind(b: TimerBacking) -> u64
     ensures { result ≡ backing_kind b }
 {
@@ -228,7 +225,7 @@ pub fn offsets_of(a: Architecture) -> Offsets
     ensures routine { result.routine ≡ routine_at a }
     ensures arguments { result.arguments ≡ arguments_at a }
 {
-    OFFSETS[architecture_number(a) as usize]
+    OFFSETS[a as usize]
 }
 
 pub fn timer_size(a: Architecture) -> u64

@@ -124,7 +124,7 @@ fn take_list(w: &mut [u64], id: u64, src: &[u64], n: usize)
     }
 }
 
-// The same for a list that stands in the words.
+// The same for a list that stands in the words. Apart from the other: each pair is read from words that taking has changed.
 fn take_own(w: &mut [u64], id: u64, at: usize, n: usize)
     requires { n ≤ 64 }
     ensures { w.new ≡ taken_own n w.old id at 0 }
@@ -149,7 +149,7 @@ pub fn takes_list(w: &mut [u64], id: u64, src: &[u64], n: usize, all: u64)
     take_list(w, id, src, n);
 }
 
-// The same for a list that stands in the words.
+// The same for a list that stands in the words, which are read and changed in turn.
 pub fn takes_own(w: &mut [u64], id: u64, at: usize, n: usize, all: u64)
     requires { n ≤ 64 }
     ensures { w.new ≡ takes_own w.old id at n all }
