@@ -1,5 +1,5 @@
 -- Laws of bytes at places.
-use Rattle.std.proofs.Common.{◌≡◌, ℕ, zero, suc, ◌+◌, ◌-◌, ◌*◌, ◌/◌, ◌%◌, ◌^◌, ◌<◌, ◌≤◌, ◌⊎◌, List, [], ◌∷◌, ◌++◌, length, get_or, drop, take, set, replicate, refl, ap, ◌∙◌, inl, inr, ⊎_elim, add-one, arith, length-set, get_or-set_other, get_or-set_same}
+use Rattle.std.proofs.Common.{◌≡◌, ℕ, zero, suc, ◌+◌, ◌-◌, ◌*◌, ◌/◌, ◌%◌, ◌^◌, ◌<◌, ◌≤◌, ◌⊎◌, List, [], ◌∷◌, ◌++◌, length, get_or, drop, take, set, refl, ap, ◌∙◌, inl, inr, ⊎_elim, add-one, arith, length-set, get_or-set_other, get_or-set_same}
 use lib.Pow.{mod-mod-pow, mod-pow-add, field}
 use lib.Seq.{set_out}
 use Rattle.images.specs.Field.{Field, placed, little, number, laid}
@@ -51,11 +51,6 @@ pub number_more : (p k n : ℕ) (out : List ℕ) → 0 < k → placed p (little 
 unfolding placed little
 number_more p zero n out h = absurd (omega arith)
 number_more p (suc k) n out h = rw (less_one k, add-one p)
-
-pub zeros : (k : ℕ) → little k 0 ≡ replicate k 0
-unfolding little
-zeros zero = refl
-zeros (suc k) = ap (λ (l : List ℕ). 0 ∷ l) (zeros k)
 
 -- the bytes beyond those kept may go before the cut
 cut-above : (k j n : ℕ) → little k (n % 2 ^ (j + 8 * k)) ≡ little k n

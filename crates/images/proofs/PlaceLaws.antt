@@ -1,5 +1,5 @@
 -- Laws of architectures, backings, ranges and locations.
-use Rattle.std.proofs.Common.{◌≡◌, ℕ, ◌+◌, ◌-◌, ◌*◌, ◌%◌, ◌^◌, ◌<◌, ◌≤◌, Bool, true, false, cond, eqb, ltb, leb, List, [], ◌∷◌, get_or, sym, refl, ◌∙◌, arith, ltb-false, ltb-true, le-ltb, lt-ltb, eq-eqb, ne_eqb, eqb-true, leb-false, leb-true}
+use Rattle.std.proofs.Common.{◌≡◌, ℕ, ◌+◌, ◌-◌, ◌*◌, ◌%◌, ◌^◌, ◌<◌, ◌≤◌, Bool, true, false, cond, eqb, ltb, leb, sym, refl, ◌∙◌, arith, ltb-false, ltb-true, le-ltb, lt-ltb, eq-eqb, ne_eqb, eqb-true, leb-false, leb-true}
 use borrow.Author.Tests.{eqb-false, lt-leb}
 use Rattle.arch.specs.declared.Architecture.{Architecture}
 use Rattle.arch.specs.declared.Architecture.TheVariants.{X64, X86}
@@ -27,22 +27,7 @@ use Rattle.images.specs.Place.{
   location_refusal,
 }
 
--- ---- the table of offsets
-
-abbrev table : List (List ℕ)
-table =
-    (64 ∷ 24 ∷ 48 ∷ 64 ∷ 24 ∷ 40 ∷ [])
-    ∷ (40 ∷ 16 ∷ 32 ∷ 32 ∷ 12 ∷ 20 ∷ [])
-    ∷ []
-
-pub row_below : (a : Architecture) → architecture_number a < 2
-row_below X64 = omega arith
-row_below X86 = omega arith
-
--- a row's number picks its architecture's entry
-pub in_row : (f : Architecture → ℕ) (k : ℕ) → get_or (get_or table 0 []) k 0 ≡ f X64 → get_or (get_or table 1 []) k 0 ≡ f X86 → (a : Architecture) (r : ℕ) → r ≡ architecture_number a → get_or (get_or table r []) k 0 ≡ f a
-in_row f k x y X64 r e = rw e x
-in_row f k x y X86 r e = rw e y
+-- ---- widths and shapes
 
 pub width_some : (a : Architecture) → 0 < width_of a
 width_some X64 = omega arith
