@@ -1,13 +1,13 @@
 -- A text at each byte that is written to it, and the digits of a number.
 use mathlib.Core.Path.{◌≡◌, refl, sym, ap, ap₂, ◌∙◌}
-use mathlib.Core.List.{List, [], ◌∷◌, ◌++◌, append-nil, append_assoc}
+use mathlib.Core.List.{List, [], ◌∷◌, ◌++◌, append_assoc}
 use Prim.Native.Nat.{ℕ, zero, suc, ◌+◌, ◌-◌, ◌/◌, ◌≤◌, ◌<◌}
 use native.Mathlib.Numerals.{add-one}
 use native.Mathlib.Omega.{arith}
 use borrow.Author.Tests.{lt-ltb, le-ltb, ltb-true, ltb-false}
 use lib.Dec.{ltb}
-use lib.ListN.{length, get_or, set, take, drop, drop_of_length-le, length-set}
-use lib.Seq.{drop-cons, get_or-set_same, drop-set-lt, take-nil}
+use lib.ListN.{length, get_or, set, drop, drop_of_length-le, length-set}
+use lib.Seq.{drop-cons, get_or-set_same, drop-set-lt}
 use Rattle.script_print.specs.Print.{digit_of, decimal_in, decimal, spaced, Written, written, printed}
 use Rattle.script_lex.proofs.Cases.{either}
 
@@ -59,9 +59,6 @@ ends-within t at bs h e =
 
 -- ---- digits: behind those that are still to come, those that stand in the buffer from place `i` on
 
-pub digits-none : (n : ℕ) (d : List ℕ) → length d ≡ 20 → decimal_in 20 n ++ drop 20 d ≡ decimal n
-digits-none n d e = simp (drop_of_length-le d (let z : length d ≤ 20 = omega arith in z)) (append-nil (decimal_in 20 n))
-
 put_front : (i : ℕ) (d : List ℕ) (b : ℕ) → i < length d → drop i (set d i b) ≡ b ∷ drop (suc i) d
 put_front i d b h =
     drop-cons (set d i b) i 0 (omega (arith, length-set d i b))
@@ -81,27 +78,21 @@ digits_more zero rest d h k l = absurd (omega arith)
 digits_more (suc j) rest d h k l =
     simp (less_one j, le-ltb _ _ l, append_assoc) (ap (λ (x : List ℕ). decimal_in j (rest / 10) ++ x) (sym (put_front j d (digit_of rest) (omega arith))))
 
-pub digits-end : (i rest : ℕ) (d : List ℕ) → i ≤ 0 → decimal_in i rest ++ drop i d ≡ drop i d
+pub digits-end : (i rest : ℕ) (d : List ℕ) → i ≤ 0 → decimal_in i rest ++ drop i d ≡ d
 unfolding decimal_in
 digits-end zero rest d h = refl
 digits-end (suc j) rest d h = absurd (omega arith)
 
 -- ---- lists of numbers
 
-pub list-end : (t : List ℕ) (at : ℕ) (ns : List ℕ) (i left : ℕ) → left ≤ 0 → printed t at (spaced (take left (drop i ns))) ≡ written t at
+pub list-end : (t : List ℕ) (at : ℕ) (ns : List ℕ) (i : ℕ) → length ns ≤ i → printed t at (spaced (drop i ns)) ≡ written t at
 unfolding printed spaced
-list-end t at ns i zero h = refl
-list-end t at ns i (suc left) h = absurd (omega arith)
+list-end t at ns i h = simp (drop_of_length-le ns h)
 
-pub list-out : (t : List ℕ) (at : ℕ) (ns : List ℕ) (i left : ℕ) → length ns ≤ i → printed t at (spaced (take left (drop i ns))) ≡ written t at
-unfolding printed spaced
-list-out t at ns i left h = simp (drop_of_length-le ns h, take-nil {A = ℕ} left)
-
-pub list-more : (t : List ℕ) (at : ℕ) (ns : List ℕ) (i left : ℕ) {t' : List ℕ} {at' : ℕ} → 0 < left → i < length ns
-    → written t' at' ≡ printed t at (32 ∷ decimal (get_or ns i 0)) → printed t at (spaced (take left (drop i ns))) ≡ printed t' at' (spaced (take (left - 1) (drop (i + 1) ns)))
+pub list-more : (t : List ℕ) (at : ℕ) (ns : List ℕ) (i : ℕ) {t' : List ℕ} {at' : ℕ} → i < length ns
+    → written t' at' ≡ printed t at (32 ∷ decimal (get_or ns i 0)) → printed t at (spaced (drop i ns)) ≡ printed t' at' (spaced (drop (i + 1) ns))
 unfolding spaced
-list-more t at ns i zero h k e = absurd (omega arith)
-list-more t at ns i (suc left) h k e =
-    simp (less_one left, drop-cons ns i 0 k, add-one i)
-    (printed-append t at (32 ∷ decimal (get_or ns i 0)) (spaced (take left (drop (suc i) ns)))
-    ∙ sym (ap₂ (λ (x : List ℕ) (n : ℕ). printed x n (spaced (take left (drop (suc i) ns)))) (ap (λ (w : Written). w.text) e) (ap (λ (w : Written). w.at) e)))
+list-more t at ns i k e =
+    simp (drop-cons ns i 0 k, add-one i)
+    (printed-append t at (32 ∷ decimal (get_or ns i 0)) (spaced (drop (suc i) ns))
+    ∙ sym (ap₂ (λ (x : List ℕ) (n : ℕ). printed x n (spaced (drop (suc i) ns))) (ap (λ (w : Written). w.text) e) (ap (λ (w : Written). w.at) e)))

@@ -1,14 +1,20 @@
 -- How much room the line of an answer needs.
-use mathlib.Core.Path.{◌≡◌, ap, ◌∙◌}
+use mathlib.Core.Path.{◌≡◌, sym, ap, ap₂, ◌∙◌}
 use mathlib.Core.Bool.{true, false}
-use mathlib.Core.List.{List, [], ◌∷◌, ◌++◌}
-use Prim.Native.Nat.{ℕ, zero, suc, ◌+◌, ◌*◌, ◌/◌, ◌≤◌, ◌<◌}
+use mathlib.Core.List.{List, [], ◌∷◌, ◌++◌, append_assoc}
+use Prim.Native.Nat.{ℕ, zero, suc, ◌+◌, ◌-◌, ◌*◌, ◌/◌, ◌≤◌, ◌<◌}
 use native.Mathlib.Numerals.{add-one}
 use native.Mathlib.Omega.{arith}
-use borrow.Author.Tests.{lt-ltb}
+use borrow.Author.Tests.{lt-ltb, ltb-true, ltb-false}
 use lib.Dec.{ltb}
 use lib.ListN.{length, take, drop, set, length-append, length-take, length-set}
 use lib.Seq.{sets, sets-eq, take_at, length-take-le}
+use Rattle.std.specs.Prelude.{min}
+use Rattle.std.proofs.Math.Nat.{min-le_left, min-le_right, min-eq_left, min-eq_right}
+use Rattle.std.proofs.Math.Seq.{length-sets}
+use Rattle.std.proofs.lemmas.List.{drop-drop, take-append-drop}
+use borrow.Rule.Slice.PartMut.{put_mid}
+use Rattle.script_print.proofs.PrintLaws.{full-stop, bytes-end, join}
 use Rattle.answers.specs.declared.Answer.{Answer}
 use Rattle.answers.specs.declared.Answer.TheVariants as answer
 use Rattle.script_print.specs.Print.{digit_of, decimal_in, decimal, spaced, Written, written, printed, flag_text, answer_text, answer_line}
@@ -22,6 +28,27 @@ printed-sets t at [] h = ap (written t) (omega arith)
 printed-sets t at (b ∷ bs) h =
     let l : at < length t = omega arith in
     simp (lt-ltb _ _ l, add-one at) (printed-sets (set t at b) (suc at) bs (omega (arith, length-set t at b)) ∙ ap (written (sets (set t at b) (suc at) bs)) (omega arith))
+
+-- as many of the bytes as fit, written in one piece
+pub printed-fitting : (t : List ℕ) (at n : ℕ) (bs ys : List ℕ) → at < length t → n ≡ min (length bs) (length t - at) → ys ≡ take n bs
+    → written (put_mid at (at + n - at) t ys) (at + n) ≡ printed t at bs
+printed-fitting t at n bs ys h m e =
+    let few : n ≤ length bs = omega (arith, m, min-le_left (length bs) (length t - at)) in
+    let fits : at + n ≤ length t = omega (arith, m, h, min-le_right (length bs) (length t - at)) in
+    let l = length-take-le n bs few in
+    let u = sets t at (take n bs) in
+    let room : at + length (take n bs) ≤ length t = omega (arith, l, fits) in
+    let piece : put_mid at (at + n - at) t ys ≡ u =
+    ap₂ (λ (y d : List ℕ). take at t ++ (y ++ d)) e (drop-drop (at + n - at) at t ∙ ap (λ (k : ℕ). drop k t) (omega (arith, l))) ∙ sym (sets-eq (take n bs) t at room ∙ append_assoc (take at t) (take n bs) _) in
+    let first : written u (at + n) ≡ printed t at (take n bs) = sym (printed-sets t at (take n bs) room ∙ ap (λ (k : ℕ). written u (at + k)) l) in
+    let rest : written u (at + n) ≡ printed u (at + n) (drop n bs) =
+    either (ltb (length bs) (length t - at))
+    (λ q. let s = ltb-true (length bs) (length t - at) q in
+    let s' : length bs ≤ length t - at = omega (arith, s) in
+    sym (bytes-end u (at + n) bs n (omega (arith, m, min-eq_left s'))))
+    (λ q. let s = ltb-false (length bs) (length t - at) q in
+    sym (full-stop u (at + n) (drop n bs) (omega (arith, m, h, length-sets t at (take n bs), min-eq_right s)))) in
+    ap (λ (x : List ℕ). written x (at + n)) piece ∙ join t at (take n bs) (drop n bs) first rest ∙ ap (printed t at) (take-append-drop n bs)
 
 -- the place behind them, and what stands up to it
 pub printed-end : (t : List ℕ) (at : ℕ) (bs : List ℕ) → at + length bs ≤ length t → (printed t at bs).at ≡ at + length bs

@@ -1,32 +1,23 @@
-// An answer as a line of text. Each writer goes as far as the text has room, and answers the place behind what it wrote.
+// An answer as a line of text.
 #![tactic(auto)]
 
 ghost use Rattle.std.specs.Prelude.{◌≡◌, ◌∷◌, ◌++◌, ◌+◌, ◌%◌, ◌≤◌, length, drop, take};
 ghost use Rattle.script_print.specs.Print.{digit_of, decimal, written, printed, spaced, flag_text, answer_text, answer_line, bare_answer};
+ghost use Rattle.script_print.specs.Texts.{Prints};
 
 use answers::Answer;
 
-// The bytes from place `from` on.
-fn put_rest(text: &mut [u8], at: usize, bytes: &[u8], from: usize) -> usize
-    ensures { written text.new result ≡ printed text.old at (drop from bytes.now) }
-{
-    let mut to = at;
-    let mut i = from;
-    while i < bytes.len() {
-        if text.len() <= to {
-            return to;
-        }
-        text[to] = bytes[i];
-        to += 1;
-        i += 1;
-    }
-    to
-}
-
-pub fn put_bytes(text: &mut [u8], at: usize, bytes: &[u8]) -> usize
+// As many of the bytes as fit from place `at` on; the place behind them.
+fn put_bytes(text: &mut [u8], at: usize, bytes: &[u8]) -> usize
     ensures { written text.new result ≡ printed text.old at bytes.now }
 {
-    put_rest(text, at, bytes, 0)
+    if text.len() <= at {
+        return at;
+    }
+    let fitting = bytes.len().min(text.len() - at);
+    let end = at + fitting;
+    text[at..end].copy_from_slice(&bytes[..fitting]);
+    end
 }
 
 // The last digit of a number.
@@ -39,99 +30,97 @@ fn digit(n: u64) -> u8
 // Puts the digits of `n` at the end of `digits`, and answers where they start.
 fn spell(n: u64, digits: &mut [u8]) -> usize
     requires { length digits.old ≡ 20 }
-    ensures { drop result digits.new ≡ decimal n }
+    ensures digits { drop result digits.new ≡ decimal n }
+    ensures within { result ≤ 20 }
 {
     let mut rest = n;
-    let mut i: usize = 20;
-    while 0 < i {
-        i -= 1;
+    for i in (0..20).rev() {
         digits[i] = digit(rest);
         if rest < 10 {
             return i;
         }
-        rest = rest / 10;
+        rest /= 10;
     }
-    i
+    0
 }
 
-pub fn put_number(text: &mut [u8], at: usize, n: u64) -> usize
-    ensures { written text.new result ≡ printed text.old at (decimal n) }
-{
-    let mut digits = [0u8; 20];
-    let i = spell(n, &mut digits);
-    put_rest(text, at, &digits, i)
+// A text that is written to: the bytes lent, and the place behind what has been written. Each writer goes as far as there is room.
+#[derive(Drop)]
+pub struct Text<'a> {
+    pub bytes: &'a mut [u8],
+    pub at: usize,
 }
 
-// A word and a number behind it.
-fn put_named(text: &mut [u8], at: usize, name: &[u8], n: u64) -> usize
-    ensures { written text.new result ≡ printed text.old at (name.now ++ decimal n) }
-{
-    let behind = put_bytes(text, at, name);
-    put_number(text, behind, n)
-}
+impl<'a> Text<'a> {
+    pub fn push_bytes(&mut self, bytes: &[u8])
+        ensures { Prints self.old self.new bytes.now }
+    {
+        self.at = put_bytes(self.bytes, self.at, bytes);
+    }
 
-fn put_item(text: &mut [u8], at: usize, n: u64) -> usize
-    ensures { written text.new result ≡ printed text.old at (32 ∷ decimal n) }
-{
-    put_named(text, at, b" ", n)
-}
+    pub fn push_number(&mut self, n: u64)
+        ensures { Prints self.old self.new (decimal n) }
+    {
+        let mut digits = [0u8; 20];
+        let start = spell(n, &mut digits);
+        self.push_bytes(&digits[start..]);
+    }
 
-// Numbers, each behind a space: the first `count` of them, or all where there are fewer.
-fn put_list(text: &mut [u8], at: usize, numbers: &[u64], count: u64) -> usize
-    ensures { written text.new result ≡ printed text.old at (spaced (take count numbers.now)) }
-{
-    let mut to = at;
-    let mut i: usize = 0;
-    let mut left = count;
-    while 0 < left {
-        if numbers.len() <= i {
-            return to;
+    // A word and a number behind it.
+    fn push_named(&mut self, name: &[u8], n: u64)
+        ensures { Prints self.old self.new (name.now ++ decimal n) }
+    {
+        self.push_bytes(name);
+        self.push_number(n);
+    }
+
+    // Numbers, each behind a space: the first `count` of them, or all where there are fewer.
+    fn push_list(&mut self, numbers: &[u64], count: u64)
+        ensures { Prints self.old self.new (spaced (take count numbers.now)) }
+    {
+        let most = (count as usize).min(numbers.len());
+        let told = &numbers[..most];
+        for n in told {
+            self.push_named(b" ", *n);
         }
-        to = put_item(text, to, numbers[i]);
-        i += 1;
-        left -= 1;
     }
-    to
-}
 
-fn put_deadlocked(text: &mut [u8], at: usize, numbers: &[u64], count: u64) -> usize
-    ensures { written text.new result ≡ printed text.old at (answer_text (Answer.Deadlocked count) numbers.now) }
-{
-    let behind = put_bytes(text, at, b"deadlocked");
-    put_list(text, behind, numbers, count)
-}
-
-fn put_flag(text: &mut [u8], at: usize, flag: bool) -> usize
-    ensures { written text.new result ≡ printed text.old at (flag_text flag) }
-{
-    if flag {
-        return put_bytes(text, at, b"yes");
+    fn push_deadlocked(&mut self, numbers: &[u64], count: u64)
+        ensures { Prints self.old self.new (answer_text (Answer.Deadlocked count) numbers.now) }
+    {
+        self.push_bytes(b"deadlocked");
+        self.push_list(numbers, count);
     }
-    put_bytes(text, at, b"no")
-}
 
-pub fn put_answer(text: &mut [u8], at: usize, a: Answer, numbers: &[u64]) -> usize
-    ensures { written text.new result ≡ printed text.old at (answer_text a numbers.now) }
-{
-    match a {
-        Answer::Refused(n) => put_named(text, at, b"refused ", n),
-        Answer::Done => put_bytes(text, at, b"ok"),
-        Answer::None => put_bytes(text, at, b"none"),
-        Answer::Thread(n) => put_named(text, at, b"thread ", n),
-        Answer::Flag(flag) => put_flag(text, at, flag),
-        Answer::Count(n) => put_number(text, at, n),
-        Answer::Satisfied(n) => put_named(text, at, b"satisfied ", n),
-        Answer::Timeout => put_bytes(text, at, b"timeout"),
-        Answer::Blocked => put_bytes(text, at, b"blocked"),
-        Answer::Run(n) => put_named(text, at, b"run ", n),
-        Answer::AdvanceTo(n) => put_named(text, at, b"advance ", n),
-        Answer::Deadlocked(n) => put_deadlocked(text, at, numbers, n),
-        Answer::Finished => put_bytes(text, at, b"finished"),
-        Answer::Event {
-            key: _,
-            manual: _,
-            signaled: _,
-        } => put_bytes(text, at, b"none"),
+    fn push_flag(&mut self, flag: bool)
+        ensures { Prints self.old self.new (flag_text flag) }
+    {
+        if flag {
+            self.push_bytes(b"yes")
+        } else {
+            self.push_bytes(b"no")
+        }
+    }
+
+    pub fn push_answer(&mut self, a: Answer, numbers: &[u64])
+        ensures { Prints self.old self.new (answer_text a numbers.now) }
+    {
+        match a {
+            Answer::Refused(n) => self.push_named(b"refused ", n),
+            Answer::Done => self.push_bytes(b"ok"),
+            Answer::None => self.push_bytes(b"none"),
+            Answer::Thread(n) => self.push_named(b"thread ", n),
+            Answer::Flag(flag) => self.push_flag(flag),
+            Answer::Count(n) => self.push_number(n),
+            Answer::Satisfied(n) => self.push_named(b"satisfied ", n),
+            Answer::Timeout => self.push_bytes(b"timeout"),
+            Answer::Blocked => self.push_bytes(b"blocked"),
+            Answer::Run(n) => self.push_named(b"run ", n),
+            Answer::AdvanceTo(n) => self.push_named(b"advance ", n),
+            Answer::Deadlocked(n) => self.push_deadlocked(numbers, n),
+            Answer::Finished => self.push_bytes(b"finished"),
+            Answer::Event { .. } => self.push_bytes(b"none"),
+        }
     }
 }
 
@@ -152,8 +141,10 @@ pub fn write_answer(text: &mut [u8], at: usize, number: u64, a: Answer, numbers:
     ensures result_after { written text.new result ≡ printed text.old at (answer_line number a numbers.now) }
     ensures upper_bound { result ≤ length text.new }
 {
-    let behind = put_number(text, at, number);
-    let spaced = put_bytes(text, behind, b" ");
-    let end = put_answer(text, spaced, a, numbers);
-    put_bytes(text, end, b"\n")
+    let mut line = Text { bytes: text, at };
+    line.push_number(number);
+    line.push_bytes(b" ");
+    line.push_answer(a, numbers);
+    line.push_bytes(b"\n");
+    line.at
 }
