@@ -2,67 +2,12 @@
 #![tactic(auto)]
 
 ghost use Rattle.script_print.specs.Texts.{Prints};
-ghost use Rattle.refusal_text.specs.Sentences.{sentence, sentence8, sentence15, sentence22};
+ghost use Rattle.refusal_text.specs.Sentences.{sentence};
 
 use script_print::Text;
 
-// From 22 on.
-#[tactic(auto, unfolding(crate::specs::Sentences::sentence22))]
-fn put_sentence_22(text: &mut Text, number: u64)
-    ensures { Prints text.old text.new (sentence22 number) }
-{
-    match number {
-        22 => text.push_bytes(b"it is not the head of the queue, or has another phase or sequence"),
-        23 => text.push_bytes(b"the memory cannot be given back"),
-        24 => text.push_bytes(b"a count stands at 2^64 - 1"),
-        25 => text.push_bytes(b"the configuration of the clock is bad"),
-        26 => text.push_bytes(b"the clock would overflow"),
-        27 => text.push_bytes(
-            b"words are out of form, a slice is too short, or the limits are bad",
-        ),
-        28 => text.push_bytes(b"the line cannot be read, or not here"),
-        _ => text.push_bytes(b"no refusal has this number"),
-    }
-}
-
-// From 15 on.
-#[tactic(auto, unfolding(crate::specs::Sentences::sentence15))]
-fn put_sentence_15(text: &mut Text, number: u64)
-    ensures { Prints text.old text.new (sentence15 number) }
-{
-    match number {
-        15 => text.push_bytes(b"the location does not suit a timer or a DPC"),
-        16 => text.push_bytes(b"its bytes are also another's"),
-        17 => text.push_bytes(b"the period is negative"),
-        18 => text.push_bytes(b"an inserted timer has the DPC"),
-        19 => text.push_bytes(b"the DPC is queued, runs or returns"),
-        20 => text.push_bytes(b"the policy is missing, or cannot be chosen"),
-        21 => text.push_bytes(b"the queued work has another origin"),
-        _ => put_sentence_22(text, number),
-    }
-}
-
-// From 8 on.
-#[tactic(auto, unfolding(crate::specs::Sentences::sentence8))]
-fn put_sentence_8(text: &mut Text, number: u64)
-    ensures { Prints text.old text.new (sentence8 number) }
-{
-    match number {
-        8 => text.push_bytes(b"the caller owns a mutex that it would wait for"),
-        9 => text.push_bytes(b"the wait would block above IRQL 1"),
-        10 => text.push_bytes(
-            b"the owner is another, or the thread would exit while it owns a mutex",
-        ),
-        11 => text.push_bytes(b"the thread has exited"),
-        12 => text.push_bytes(b"time would go back"),
-        13 => text.push_bytes(b"a due time would pass 2^64 - 1"),
-        14 => text.push_bytes(b"there have been 65536 initializations or acceptances"),
-        _ => put_sentence_15(text, number),
-    }
-}
-
 // The sentence of a refusal's number.
-#[tactic(auto, unfolding(crate::specs::Sentences::sentence))]
+#[tactic(auto, unfolding(crate::specs::Sentences::sentence, crate::specs::Sentences::sentence8, crate::specs::Sentences::sentence15, crate::specs::Sentences::sentence22))]
 pub fn put_sentence(text: &mut Text, number: u64)
     ensures { Prints text.old text.new (sentence number) }
 {
@@ -78,6 +23,31 @@ pub fn put_sentence(text: &mut Text, number: u64)
         7 => text.push_bytes(
             b"the list is empty, has more than 64 objects or one twice, or is no list of pairs",
         ),
-        _ => put_sentence_8(text, number),
+        8 => text.push_bytes(b"the caller owns a mutex that it would wait for"),
+        9 => text.push_bytes(b"the wait would block above IRQL 1"),
+        10 => text.push_bytes(
+            b"the owner is another, or the thread would exit while it owns a mutex",
+        ),
+        11 => text.push_bytes(b"the thread has exited"),
+        12 => text.push_bytes(b"time would go back"),
+        13 => text.push_bytes(b"a due time would pass 2^64 - 1"),
+        14 => text.push_bytes(b"there have been 65536 initializations or acceptances"),
+        15 => text.push_bytes(b"the location does not suit a timer or a DPC"),
+        16 => text.push_bytes(b"its bytes are also another's"),
+        17 => text.push_bytes(b"the period is negative"),
+        18 => text.push_bytes(b"an inserted timer has the DPC"),
+        19 => text.push_bytes(b"the DPC is queued, runs or returns"),
+        20 => text.push_bytes(b"the policy is missing, or cannot be chosen"),
+        21 => text.push_bytes(b"the queued work has another origin"),
+        22 => text.push_bytes(b"it is not the head of the queue, or has another phase or sequence"),
+        23 => text.push_bytes(b"the memory cannot be given back"),
+        24 => text.push_bytes(b"a count stands at 2^64 - 1"),
+        25 => text.push_bytes(b"the configuration of the clock is bad"),
+        26 => text.push_bytes(b"the clock would overflow"),
+        27 => text.push_bytes(
+            b"words are out of form, a slice is too short, or the limits are bad",
+        ),
+        28 => text.push_bytes(b"the line cannot be read, or not here"),
+        _ => text.push_bytes(b"no refusal has this number"),
     }
 }
