@@ -1,9 +1,9 @@
-// A line of a script to the line of its answer, and beside a refusal why. Each writer goes as far as the text has room, and answers
-// the place behind what it wrote.
+// A line of a script to the line of its answer, and beside a refusal why. Each writer goes as far as the text has room.
 #![tactic(auto)]
 
 ghost use Rattle.std.specs.Prelude.{◌≡◌, ◌≤◌, length};
 ghost use Rattle.script_print.specs.Print.{written, printed};
+ghost use Rattle.script_print.specs.Texts.{Prints};
 ghost use Rattle.runner.specs.Line.{answered_as};
 ghost use Rattle.explain_line.specs.Explain.{session_reason, why, beside, explained_line, explained};
 
@@ -12,6 +12,7 @@ use reasons::Reason;
 use runner::lines::Answered;
 use runner::session;
 use script_lex::lex;
+use script_print::Text;
 
 // Why the session refuses a line that can be read: with nothing open any but an `open`, then an `open`, and but for these a clock's line.
 fn session_reason(line: &[u8], opened: bool) -> Reason
@@ -28,25 +29,24 @@ fn session_reason(line: &[u8], opened: bool) -> Reason
 }
 
 // Why a line is refused with a number: for 28 its reason, else the number's sentence.
-fn put_why(text: &mut [u8], at: usize, line: &[u8], opened: bool, number: u64) -> usize
-    ensures { written text.new result ≡ printed text.old at (why line.now opened number) }
+fn put_why(text: &mut Text, line: &[u8], opened: bool, number: u64)
+    ensures { Prints text.old text.new (why line.now opened number) }
 {
     if number == 28 {
         let reason = reasons::reason_in(line, session_reason(line, opened));
-        return reason_text::put_reason(text, at, line, reason);
+        return reason_text::put_reason(text, line, reason);
     }
-    refusal_text::put_sentence(text, at, number)
+    refusal_text::put_sentence(text, number);
 }
 
 // What stands beside an answer: nothing, unless it is a refusal.
-fn put_beside(text: &mut [u8], at: usize, line: &[u8], opened: bool, a: Answer) -> usize
-    ensures { written text.new result ≡ printed text.old at (beside line.now opened a) }
+fn put_beside(text: &mut Text, line: &[u8], opened: bool, a: Answer)
+    ensures { Prints text.old text.new (beside line.now opened a) }
 {
     if let Answer::Refused(number) = a {
-        let start = script_print::put_bytes(text, at, b": ");
-        return put_why(text, start, line, opened, number);
+        text.push_bytes(b": ");
+        put_why(text, line, opened, number);
     }
-    at
 }
 
 // The line of an answer, with the number of the line that it answers, at place `at` of `text`.
@@ -63,11 +63,13 @@ fn put_line(
     ensures result_after { written text.new result ≡ printed text.old at (explained_line number a numbers.now line.now opened) }
     ensures upper_bound { result ≤ length text.new }
 {
-    let behind = script_print::put_number(text, at, number);
-    let spaced = script_print::put_bytes(text, behind, b" ");
-    let told = script_print::put_answer(text, spaced, a, numbers);
-    let end = put_beside(text, told, line, opened, a);
-    script_print::put_bytes(text, end, b"\n")
+    let mut told = Text { bytes: text, at };
+    told.push_number(number);
+    told.push_bytes(b" ");
+    told.push_answer(a, numbers);
+    put_beside(&mut told, line, opened, a);
+    told.push_bytes(b"\n");
+    told.at
 }
 
 // A line, which comes without its newline, read and performed, and its answer written with what stands beside it.

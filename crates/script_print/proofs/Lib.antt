@@ -3,4 +3,4 @@ pub mod BareLaws
 pub mod RoundTrip
 pub mod RoomLaws
 pub mod Samples
-mod TextLaws
+pub mod TextLaws

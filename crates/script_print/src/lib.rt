@@ -1,7 +1,7 @@
 // An answer as a line of text.
 #![tactic(auto)]
 
-ghost use Rattle.std.specs.Prelude.{◌≡◌, ◌∷◌, ◌++◌, ◌+◌, ◌%◌, ◌≤◌, length, drop, take};
+ghost use Rattle.std.specs.Prelude.{◌≡◌, [], ◌∷◌, ◌++◌, ◌+◌, ◌%◌, ◌≤◌, length, drop, take};
 ghost use Rattle.script_print.specs.Print.{digit_of, decimal, written, printed, spaced, flag_text, answer_text, answer_line, bare_answer};
 ghost use Rattle.script_print.specs.Texts.{Prints};
 
@@ -56,6 +56,16 @@ impl<'a> Text<'a> {
         ensures { Prints self.old self.new bytes.now }
     {
         self.at = put_bytes(self.bytes, self.at, bytes);
+    }
+
+    #[tactic(auto, unfolding(crate::specs::Print::printed))]
+    pub fn push_byte(&mut self, b: u8)
+        ensures { Prints self.old self.new (b ∷ []) }
+    {
+        if self.at < self.bytes.len() {
+            self.bytes[self.at] = b;
+            self.at += 1;
+        }
     }
 
     pub fn push_number(&mut self, n: u64)

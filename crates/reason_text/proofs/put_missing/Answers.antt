@@ -1,7 +1,5 @@
-use Rattle.script_lex.specs.Text.{bytes_of}
-use Rattle.script_print.proofs.PrintLaws.{join}
-use Rattle.reason_text.specs.Texts.{kind_text}
+use Rattle.script_print.proofs.TextLaws.{prints-more}
 use Rattle.reason_text.proofs.put_missing.Goals as goal
 
 pub returns : goal.returns
-returns c = join c.args.text.now c.args.at (bytes_of "an argument is missing: expected ") (kind_text c.args.kind) c.put_bytes-end.ensures c.put_kind.ensures
+returns c = prints-more c.args.text.now c.push_bytes.new.self c.put_kind.new.text _ _ c.push_bytes.ensures c.put_kind.ensures

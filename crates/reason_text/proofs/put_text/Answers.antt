@@ -3,15 +3,15 @@ use Rattle.reason_text.proofs.put_text.Goals as goal
 
 pub returns-in-Fine : goal.returns-in-Fine
 unfolding words_text
-returns-in-Fine c = simp c.in-Fine.is c.put_bytes.ensures
+returns-in-Fine c = simp c.in-Fine.is c.push_bytes.ensures
 
 pub returns-in-TooLong : goal.returns-in-TooLong
 unfolding words_text
-returns-in-TooLong c = simp c.in-TooLong.is c.put_bytes-in-TooLong.ensures
+returns-in-TooLong c = simp c.in-TooLong.is c.push_bytes-in-TooLong.ensures
 
 pub returns-in-NoWord : goal.returns-in-NoWord
 unfolding words_text
-returns-in-NoWord c = simp c.in-NoWord.is c.put_bytes-in-NoWord.ensures
+returns-in-NoWord c = simp c.in-NoWord.is c.push_bytes-in-NoWord.ensures
 
 pub returns-in-UnknownWord : goal.returns-in-UnknownWord
 unfolding words_text
@@ -39,12 +39,12 @@ returns-in-Extra c = simp c.in-Extra.is c.put_named-in-Extra.ensures
 
 pub returns-in-BeforeOpen : goal.returns-in-BeforeOpen
 unfolding words_text
-returns-in-BeforeOpen c = simp c.in-BeforeOpen.is c.put_bytes-in-BeforeOpen.ensures
+returns-in-BeforeOpen c = simp c.in-BeforeOpen.is c.push_bytes-in-BeforeOpen.ensures
 
 pub returns-in-SecondOpen : goal.returns-in-SecondOpen
 unfolding words_text
-returns-in-SecondOpen c = simp c.in-SecondOpen.is c.put_bytes-in-SecondOpen.ensures
+returns-in-SecondOpen c = simp c.in-SecondOpen.is c.push_bytes-in-SecondOpen.ensures
 
 pub returns-in-BeforeClock : goal.returns-in-BeforeClock
 unfolding words_text
-returns-in-BeforeClock c = simp c.in-BeforeClock.is c.put_bytes-in-BeforeClock.ensures
+returns-in-BeforeClock c = simp c.in-BeforeClock.is c.push_bytes-in-BeforeClock.ensures
