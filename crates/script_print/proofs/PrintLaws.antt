@@ -22,10 +22,6 @@ pub bytes-end : (t : List ℕ) (at : ℕ) (bs : List ℕ) (i : ℕ) → length b
 unfolding printed
 bytes-end t at bs i h = simp (drop_of_length-le bs h)
 
-pub bytes-more : (t : List ℕ) (at : ℕ) (bs : List ℕ) (i : ℕ) → i < length bs → at < length t → printed t at (drop i bs) ≡ printed (set t at (get_or bs i 0)) (at + 1) (drop (i + 1) bs)
-unfolding printed
-bytes-more t at bs i h k = simp (drop-cons bs i 0 h, lt-ltb _ _ k, add-one i)
-
 -- what is written goes on where it ended
 printed-append : (t : List ℕ) (at : ℕ) (a b : List ℕ) → printed t at (a ++ b) ≡ printed (printed t at a).text (printed t at a).at b
 unfolding printed
