@@ -7,6 +7,8 @@ ghost use Rattle.script_bytes.specs.Bytes.{Lent, Within, begun, machine, finishe
 use runner::{lines, session};
 
 // How many bytes of the present line have come, its number, the bench, and how many bytes of answers stand in the text.
+// What is lent stays a parameter of each function: a struct of `&mut`s keeps no ghost field, so each method would have to promise five loans
+// and their lengths besides.
 #[derive(Clone, Copy)]
 pub struct Place {
     pub used: usize,
@@ -39,14 +41,21 @@ fn finish(
     ensures text_after { machine result w.new waiting.new list.new line.now text.new ≡ finished (machine p w.old waiting.old list.old line.now text.old) }
     ensures within { Within result line.now text.new }
 {
-    let n = p.used;
     let s = p.session;
-    let a = lines::answer_line(w, waiting, list, &line[..n], text, p.written, p.number, s);
-    let next = a.session;
+    let a = lines::answer_line(
+        w,
+        waiting,
+        list,
+        &line[..p.used],
+        text,
+        p.written,
+        p.number,
+        s,
+    );
     Place {
         used: 0,
         number: std::num::wrapping_add_u64(p.number, 1),
-        session: next,
+        session: a.session,
         written: a.end,
     }
 }
@@ -71,13 +80,7 @@ pub fn byte(
     let n = p.used;
     if n < line.len() {
         line[n] = b;
-        let s = p.session;
-        return Place {
-            used: n + 1,
-            number: p.number,
-            session: s,
-            written: p.written,
-        };
+        return Place { used: n + 1, ..p };
     }
     p
 }
@@ -86,13 +89,7 @@ pub fn byte(
 pub fn from_start(p: Place) -> Place
     ensures { result ≡ record { used = p.used; number = p.number; session = p.session; written = 0 } }
 {
-    let s = p.session;
-    Place {
-        used: p.used,
-        number: p.number,
-        session: s,
-        written: 0,
-    }
+    Place { written: 0, ..p }
 }
 
 // A part of a script: the answers of the lines that end in it stand in the text.
@@ -112,10 +109,8 @@ pub fn take(
     ensures within_2 { Within result line.new text.new }
 {
     let mut at = from_start(p);
-    let mut i: usize = 0;
-    while i < part.len() {
-        at = byte(w, waiting, list, line, text, part[i], at);
-        i += 1;
+    for b in part {
+        at = byte(w, waiting, list, line, text, *b, at);
     }
     at
 }

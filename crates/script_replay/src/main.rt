@@ -13,13 +13,7 @@ fn write(rt: &impl Print, answers: &[u8]) {
 
 // Whether the line that has come is `#`.
 fn is_mark(line: &[u8], p: Place) -> bool {
-    if p.used != 1 {
-        return false;
-    }
-    if line.len() == 0 {
-        return false;
-    }
-    line[0] == b'#'
+    p.used == 1 && matches!(line.first(), Some(b'#'))
 }
 
 fn step(
@@ -60,10 +54,8 @@ fn take(
     ensures { Within result line.new text.new }
 {
     let mut at = script_bytes::from_start(p);
-    let mut i: usize = 0;
-    while i < part.len() {
-        at = step(rt, w, waiting, list, line, text, part[i], at);
-        i += 1;
+    for b in part {
+        at = step(rt, w, waiting, list, line, text, *b, at);
     }
     at
 }
