@@ -1,4 +1,6 @@
 // Bytes to lines, and a line to the call that it names.
+ghost use Rattle.std.specs.Prelude.{◌≤◌, length};
+
 use replay_calls::named;
 use replay_state::{reads, show};
 use script_lex::lex;
@@ -26,80 +28,47 @@ pub fn start() -> Place {
 const NUMBERS: usize = 160;
 
 // The numbers behind a line's name, and how many they are. A word that is no number counts as 0.
-fn numbers_of(line: &[u8], numbers: &mut [u64]) -> usize {
+fn numbers_of(line: &[u8], numbers: &mut [u64]) -> usize
+    ensures { result ≤ length numbers.new }
+{
     let mut at = lex::behind(line, 0);
-    let mut count: usize = 0;
-    while count < NUMBERS {
+    for i in 0..numbers.len() {
         if lex::is_end(line, at) {
-            return count;
+            return i;
         }
-        let n = match lex::number_at(line, at, u64::MAX) {
+        numbers[i] = match lex::number_at(line, at, u64::MAX) {
             lex::Number::Unread => 0,
             lex::Number::Read(n) => n,
         };
-        words::put(numbers, count, n);
         at = lex::behind(line, at);
-        count += 1;
     }
-    count
+    numbers.len()
 }
 
 // The keys of a new list's mutexes; of what was shown before nothing stays.
 fn keep_keys(numbers: &[u64], kept: &mut [u64]) {
-    show::forget(kept);
-    let mut i: usize = 0;
-    while i < show::KEYS {
+    kept.fill(0);
+    for i in 0..show::KEYS {
         words::put_in(kept, show::KEYS_AT, i, words::get(numbers, i));
-        i += 1;
     }
 }
 
-fn fewer(a: usize, b: usize) -> usize {
-    if a < b { a } else { b }
-}
-
-// The call of a line, as often as it is to be made. What the last one answers stands in `out`.
-fn call(
-    w: &mut [u64],
-    waiting: &mut [u64],
-    bytes: &mut [u8],
-    out: &mut [u64],
-    line: &[u8],
-    numbers: &[u64],
-    count: usize,
-    times: u64,
-) {
-    let mut left = times;
-    while left > 0 {
-        show::clear(out);
-        let number = named::call(w, waiting, bytes, out, line, numbers, count);
-        show::refuse(out, number);
-        left -= 1;
-    }
-}
-
-// The call is made, and its answer written.
+// The call of a line, as often as it is to be made, and its answer written: what the last one answers.
 fn perform(
     rt: &impl Print,
     w: &mut [u64],
     line: &[u8],
     numbers: &[u64],
-    count: usize,
     p: Place,
 ) -> io::Result<()> {
     let mut waiting = [0u64; 256];
     let mut bytes = [0u8; 64];
     let mut out = [0u64; 24];
-    call(
-        w,
-        &mut waiting,
-        &mut bytes,
-        &mut out,
-        line,
-        numbers,
-        count,
-        p.times,
-    );
+    for _ in 0..p.times {
+        out = [0u64; 24];
+        let number = named::call(w, &mut waiting, &mut bytes, &mut out, line, numbers);
+        show::refuse(&mut out, number);
+    }
     rt.print(p.number)?;
     rt.write_all(b" ")?;
     show::answer(rt, &out)?;
@@ -124,16 +93,17 @@ fn finish(
     line: &[u8],
     p: Place,
 ) -> io::Result<Place> {
-    let mut numbers = [0u64; 160];
+    let mut numbers = [0u64; NUMBERS];
     let count = numbers_of(line, &mut numbers);
+    let numbers = &numbers[..count];
     if lex::is_word(line, 0, b"times") {
-        return Ok(next(p, words::get(&numbers, 0), p.keys));
+        return Ok(next(p, words::get(numbers, 0), p.keys));
     }
     if lex::is_word(line, 0, b"keys") {
-        keep_keys(&numbers, kept);
-        return Ok(next(p, 1, fewer(count, show::KEYS)));
+        keep_keys(numbers, kept);
+        return Ok(next(p, 1, count.min(show::KEYS)));
     }
-    perform(rt, w, line, &numbers, count, p)?;
+    perform(rt, w, line, numbers, p)?;
     reads::state(rt, w, p.keys, kept)?;
     Ok(next(p, 1, p.keys))
 }
@@ -155,12 +125,7 @@ fn byte(
     }
     if n < line.len() {
         line[n] = b;
-        return Ok(Place {
-            used: n + 1,
-            number: p.number,
-            times: p.times,
-            keys: p.keys,
-        });
+        return Ok(Place { used: n + 1, ..p });
     }
     Ok(p)
 }
@@ -174,10 +139,8 @@ pub fn take(
     p: Place,
 ) -> io::Result<Place> {
     let mut at = p;
-    let mut i: usize = 0;
-    while i < chunk.len() {
-        at = byte(rt, w, kept, line, chunk[i], at)?;
-        i += 1;
+    for b in chunk {
+        at = byte(rt, w, kept, line, *b, at)?;
     }
     Ok(at)
 }

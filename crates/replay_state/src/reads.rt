@@ -3,48 +3,65 @@ use super::show;
 use exports::{dpc_calls, scheduler_calls, thread_calls, timer_calls};
 use std::io;
 
-// Where the answers of a read stand in what has been shown, in answers: by position, or by the key's place.
-const THREADS: usize = 0;
-
-const EVENTS: usize = 256;
-
-const TIMERS: usize = 384;
-
-const DPCS: usize = 512;
-
-const QUEUE: usize = 640;
-
-const OWNERS: usize = 768;
-
-const WAITERS: usize = 784;
-
-const SINGLE: usize = 800;
-
-// How many positions of a table are read.
-const POSITIONS: usize = 128;
-
-const MOST_THREADS: usize = 256;
-
-// Where an answer's words stand; past all of them for a position that is not kept.
-fn place(first: usize, index: usize) -> usize {
-    if 1024 < first {
-        return usize::MAX;
-    }
-    if 256 < index {
-        return usize::MAX;
-    }
-    (first + index) * show::ANSWER
+// What is read by position, or by a mutex's key.
+#[derive(Clone, Copy)]
+enum Table {
+    Threads,
+    Events,
+    Timers,
+    Dpcs,
+    Queue,
+    Owners,
+    Waiters,
 }
 
-// ---- by position
+impl Table {
+    fn name(self) -> &'static str {
+        match self {
+            Table::Threads => "thread",
+            Table::Events => "event",
+            Table::Timers => "timer",
+            Table::Dpcs => "dpc",
+            Table::Queue => "queued",
+            Table::Owners => "owner",
+            Table::Waiters => "waiters",
+        }
+    }
 
-fn at_position(first: usize, w: &[u64], position: u64, out: &mut [u64]) -> u64 {
-    match first {
-        EVENTS => scheduler_calls::scheduler_event_states(w, position, out),
-        TIMERS => timer_calls::scheduler_timers(w, position, out),
-        DPCS => dpc_calls::scheduler_dpcs(w, position, out),
-        QUEUE => dpc_calls::scheduler_queued_dpcs(w, position, out),
-        _ => thread_calls::scheduler_threads(w, position, out),
+    // Where its answers stand in what has been shown, in answers.
+    fn first(self) -> usize {
+        match self {
+            Table::Threads => 0,
+            Table::Events => 256,
+            Table::Timers => 384,
+            Table::Dpcs => 512,
+            Table::Queue => 640,
+            Table::Owners => 768,
+            Table::Waiters => 784,
+        }
+    }
+
+    // How many positions are read at most.
+    fn most(self) -> usize {
+        match self {
+            Table::Threads => 256,
+            _ => 128,
+        }
+    }
+
+    fn read(self, w: &[u64], argument: u64) -> [u64; 24] {
+        let mut out = [0u64; 24];
+        let number = match self {
+            Table::Threads => thread_calls::scheduler_threads(w, argument, &mut out),
+            Table::Events => scheduler_calls::scheduler_event_states(w, argument, &mut out),
+            Table::Timers => timer_calls::scheduler_timers(w, argument, &mut out),
+            Table::Dpcs => dpc_calls::scheduler_dpcs(w, argument, &mut out),
+            Table::Queue => dpc_calls::scheduler_queued_dpcs(w, argument, &mut out),
+            Table::Owners => scheduler_calls::scheduler_mutex_owner(w, argument, &mut out),
+            Table::Waiters => scheduler_calls::scheduler_mutex_waiters(w, argument, &mut out),
+        };
+        show::refuse(&mut out, number);
+        out
     }
 }
 
@@ -62,129 +79,123 @@ fn object(rt: &impl Print, w: &[u64], id: u64, position: u64) -> io::Result<bool
 }
 
 fn objects(rt: &impl Print, w: &[u64], id: u64) -> io::Result<()> {
-    let mut position: u64 = 0;
-    while position < 65 {
+    for position in 0..65 {
         if !object(rt, w, id, position)? {
             return Ok(());
         }
-        position += 1;
     }
     Ok(())
 }
 
-// The answer at a position, if it is news; whether there may be one behind it.
-fn shows(
+// The answer about a position or a key, if it is news; behind a thread's the objects of its wait.
+fn tell(
     rt: &impl Print,
-    first: usize,
+    table: Table,
     i: usize,
-    name: &[u8],
-    w: &[u64],
-    kept: &mut [u64],
-) -> io::Result<bool> {
-    let mut out = [0u64; 24];
-    let number = at_position(first, w, i as u64, &mut out);
-    show::refuse(&mut out, number);
-    let at = place(first, i);
-    if show::is_past(kept, at, &out) {
-        return Ok(false);
-    }
-    if show::is_news(kept, at, &out) {
-        show::title_of(rt, name, i as u64)?;
-        show::answer(rt, &out)?;
-        if first == THREADS {
-            objects(rt, w, words::get(&out, 1))?;
-        }
-        show::end_line(rt)?;
-    }
-    Ok(true)
-}
-
-fn table(
-    rt: &impl Print,
-    first: usize,
-    most: usize,
-    name: &[u8],
+    argument: u64,
+    out: &[u64],
     w: &[u64],
     kept: &mut [u64],
 ) -> io::Result<()> {
-    let mut i: usize = 0;
-    while i < most {
-        if !shows(rt, first, i, name, w, kept)? {
+    if show::is_news(kept, table.first().saturating_add(i), out) {
+        show::title_of(rt, table.name(), argument)?;
+        show::answer(rt, out)?;
+        if let Table::Threads = table {
+            objects(rt, w, words::get(out, 1))?;
+        }
+        show::end_line(rt)?;
+    }
+    Ok(())
+}
+
+// The answers of a table, up to the last.
+fn positions(rt: &impl Print, table: Table, w: &[u64], kept: &mut [u64]) -> io::Result<()> {
+    for i in 0..table.most() {
+        let out = table.read(w, i as u64);
+        if show::is_past(kept, table.first().saturating_add(i), &out) {
             return Ok(());
         }
-        i += 1;
+        tell(rt, table, i, i as u64, &out, w, kept)?;
     }
     Ok(())
 }
 
-// ---- mutexes, which are read by key alone
-
-fn owner(rt: &impl Print, w: &[u64], key: u64, i: usize, kept: &mut [u64]) -> io::Result<()> {
-    let mut out = [0u64; 24];
-    let number = scheduler_calls::scheduler_mutex_owner(w, key, &mut out);
-    show::refuse(&mut out, number);
-    if show::is_news(kept, place(OWNERS, i), &out) {
-        show::title_of(rt, b"owner", key)?;
-        show::answer(rt, &out)?;
-        show::end_line(rt)?;
-    }
-    Ok(())
-}
-
-fn waiters(rt: &impl Print, w: &[u64], key: u64, i: usize, kept: &mut [u64]) -> io::Result<()> {
-    let mut out = [0u64; 24];
-    let number = scheduler_calls::scheduler_mutex_waiters(w, key, &mut out);
-    show::refuse(&mut out, number);
-    if show::is_news(kept, place(WAITERS, i), &out) {
-        show::title_of(rt, b"waiters", key)?;
-        show::answer(rt, &out)?;
-        show::end_line(rt)?;
-    }
-    Ok(())
-}
-
-fn mutex(rt: &impl Print, w: &[u64], i: usize, kept: &mut [u64]) -> io::Result<()> {
-    let key = words::get_in(kept, show::KEYS_AT, i);
-    owner(rt, w, key, i, kept)?;
-    waiters(rt, w, key, i, kept)
-}
-
+// Mutexes are read by key alone.
 fn mutexes(rt: &impl Print, w: &[u64], count: usize, kept: &mut [u64]) -> io::Result<()> {
-    let mut i: usize = 0;
-    while i < count {
-        mutex(rt, w, i, kept)?;
-        i += 1;
+    for i in 0..count {
+        let key = words::get_in(kept, show::KEYS_AT, i);
+        let owner = Table::Owners.read(w, key);
+        tell(rt, Table::Owners, i, key, &owner, w, kept)?;
+        let waiters = Table::Waiters.read(w, key);
+        tell(rt, Table::Waiters, i, key, &waiters, w, kept)?;
     }
     Ok(())
 }
 
-// ---- reads with no argument
+// What is read with no argument.
+#[derive(Clone, Copy)]
+enum Single {
+    Current,
+    PendingTimer,
+    TimerInitializations,
+    DpcInitializations,
+    Active,
+    Next,
+    Policy,
+    Counters,
+}
 
-fn read(index: usize, w: &[u64], out: &mut [u64]) -> u64 {
-    match index {
-        0 => scheduler_calls::scheduler_current(w, out),
-        1 => timer_calls::scheduler_pending_timer_dpc(w, out),
-        2 => timer_calls::scheduler_timer_initializations(w, out),
-        3 => dpc_calls::scheduler_dpc_initializations(w, out),
-        4 => dpc_calls::scheduler_active_dpc(w, out),
-        5 => dpc_calls::scheduler_next_dpc(w, out),
-        6 => dpc_calls::scheduler_dpc_policy(w, out),
-        _ => dpc_calls::scheduler_dpc_counters(w, out),
+impl Single {
+    fn name(self) -> &'static str {
+        match self {
+            Single::Current => "current",
+            Single::PendingTimer => "pending timer",
+            Single::TimerInitializations => "timer initializations",
+            Single::DpcInitializations => "dpc initializations",
+            Single::Active => "active",
+            Single::Next => "next",
+            Single::Policy => "policy",
+            Single::Counters => "counters",
+        }
+    }
+
+    // Where its answer stands in what has been shown, in answers.
+    fn place(self) -> usize {
+        match self {
+            Single::Current => 800,
+            Single::PendingTimer => 801,
+            Single::TimerInitializations => 802,
+            Single::DpcInitializations => 803,
+            Single::Active => 804,
+            Single::Next => 805,
+            Single::Policy => 806,
+            Single::Counters => 807,
+        }
+    }
+
+    fn read(self, w: &[u64]) -> [u64; 24] {
+        let mut out = [0u64; 24];
+        let number = match self {
+            Single::Current => scheduler_calls::scheduler_current(w, &mut out),
+            Single::PendingTimer => timer_calls::scheduler_pending_timer_dpc(w, &mut out),
+            Single::TimerInitializations => {
+                timer_calls::scheduler_timer_initializations(w, &mut out)
+            }
+            Single::DpcInitializations => dpc_calls::scheduler_dpc_initializations(w, &mut out),
+            Single::Active => dpc_calls::scheduler_active_dpc(w, &mut out),
+            Single::Next => dpc_calls::scheduler_next_dpc(w, &mut out),
+            Single::Policy => dpc_calls::scheduler_dpc_policy(w, &mut out),
+            Single::Counters => dpc_calls::scheduler_dpc_counters(w, &mut out),
+        };
+        show::refuse(&mut out, number);
+        out
     }
 }
 
-fn single(
-    rt: &impl Print,
-    index: usize,
-    name: &[u8],
-    w: &[u64],
-    kept: &mut [u64],
-) -> io::Result<()> {
-    let mut out = [0u64; 24];
-    let number = read(index, w, &mut out);
-    show::refuse(&mut out, number);
-    if show::is_news(kept, place(SINGLE, index), &out) {
-        show::title(rt, name)?;
+fn single(rt: &impl Print, what: Single, w: &[u64], kept: &mut [u64]) -> io::Result<()> {
+    let out = what.read(w);
+    if show::is_news(kept, what.place(), &out) {
+        show::title(rt, what.name())?;
         show::answer(rt, &out)?;
         show::end_line(rt)?;
     }
@@ -197,26 +208,26 @@ fn threads_and_objects(
     count: usize,
     kept: &mut [u64],
 ) -> io::Result<()> {
-    single(rt, 0, b"current", w, kept)?;
-    table(rt, THREADS, MOST_THREADS, b"thread", w, kept)?;
+    single(rt, Single::Current, w, kept)?;
+    positions(rt, Table::Threads, w, kept)?;
     mutexes(rt, w, count, kept)?;
-    table(rt, EVENTS, POSITIONS, b"event", w, kept)
+    positions(rt, Table::Events, w, kept)
 }
 
 fn timers_and_dpcs(rt: &impl Print, w: &[u64], kept: &mut [u64]) -> io::Result<()> {
-    table(rt, TIMERS, POSITIONS, b"timer", w, kept)?;
-    single(rt, 1, b"pending timer", w, kept)?;
-    single(rt, 2, b"timer initializations", w, kept)?;
-    table(rt, DPCS, POSITIONS, b"dpc", w, kept)?;
-    single(rt, 3, b"dpc initializations", w, kept)
+    positions(rt, Table::Timers, w, kept)?;
+    single(rt, Single::PendingTimer, w, kept)?;
+    single(rt, Single::TimerInitializations, w, kept)?;
+    positions(rt, Table::Dpcs, w, kept)?;
+    single(rt, Single::DpcInitializations, w, kept)
 }
 
 fn work(rt: &impl Print, w: &[u64], kept: &mut [u64]) -> io::Result<()> {
-    table(rt, QUEUE, POSITIONS, b"queued", w, kept)?;
-    single(rt, 4, b"active", w, kept)?;
-    single(rt, 5, b"next", w, kept)?;
-    single(rt, 6, b"policy", w, kept)?;
-    single(rt, 7, b"counters", w, kept)
+    positions(rt, Table::Queue, w, kept)?;
+    single(rt, Single::Active, w, kept)?;
+    single(rt, Single::Next, w, kept)?;
+    single(rt, Single::Policy, w, kept)?;
+    single(rt, Single::Counters, w, kept)
 }
 
 pub fn state(rt: &impl Print, w: &[u64], count: usize, kept: &mut [u64]) -> io::Result<()> {

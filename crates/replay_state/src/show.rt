@@ -16,73 +16,50 @@ pub const NONE: u64 = 2;
 
 const DEADLOCKED: u64 = 11;
 
-pub fn clear(out: &mut [u64]) {
-    let mut i: usize = 0;
-    while i < ANSWER {
-        words::put(out, i, 0);
-        i += 1;
-    }
-}
-
 pub fn refuse(out: &mut [u64], number: u64) {
     words::put(out, REFUSED, number);
 }
 
-pub fn forget(kept: &mut [u64]) {
-    let mut i: usize = 0;
-    while i < kept.len() {
-        words::put(kept, i, 0);
-        i += 1;
-    }
-}
-
-fn tag(rt: &impl Print, t: u64) -> io::Result<()> {
+fn tag(t: u64) -> &'static str {
     match t {
-        1 => rt.write_all(b"done"),
-        2 => rt.write_all(b"none"),
-        3 => rt.write_all(b"thread"),
-        4 => rt.write_all(b"flag"),
-        5 => rt.write_all(b"count"),
-        6 => rt.write_all(b"satisfied"),
-        7 => rt.write_all(b"timeout"),
-        8 => rt.write_all(b"blocked"),
-        9 => rt.write_all(b"run"),
-        10 => rt.write_all(b"advance"),
-        11 => rt.write_all(b"deadlocked"),
-        12 => rt.write_all(b"finished"),
-        13 => rt.write_all(b"event"),
-        14 => rt.write_all(b"timer"),
-        15 => rt.write_all(b"dpc"),
-        16 => rt.write_all(b"work"),
-        17 => rt.write_all(b"no policy"),
-        18 => rt.write_all(b"policy"),
-        19 => rt.write_all(b"counters"),
-        20 => rt.write_all(b"thread record"),
-        21 => rt.write_all(b"object"),
-        _ => rt.write_all(b"?"),
+        1 => "done",
+        2 => "none",
+        3 => "thread",
+        4 => "flag",
+        5 => "count",
+        6 => "satisfied",
+        7 => "timeout",
+        8 => "blocked",
+        9 => "run",
+        10 => "advance",
+        11 => "deadlocked",
+        12 => "finished",
+        13 => "event",
+        14 => "timer",
+        15 => "dpc",
+        16 => "work",
+        17 => "no policy",
+        18 => "policy",
+        19 => "counters",
+        20 => "thread record",
+        21 => "object",
+        _ => "?",
     }
 }
 
 // How many words there are up to the last that is not 0, but for the refusal.
 fn used(out: &[u64]) -> usize {
-    let mut n: usize = REFUSED;
-    while n > 0 {
-        if words::get(out, n - 1) != 0 {
-            return n;
+    for i in (0..REFUSED).rev() {
+        if words::get(out, i) != 0 {
+            return i + 1;
         }
-        n -= 1;
     }
     0
 }
 
-fn values(rt: &impl Print, out: &[u64], from: usize, to: usize) -> io::Result<()> {
-    let mut i = from;
-    while i < to {
-        rt.write_all(b" ")?;
-        rt.print(words::get(out, i))?;
-        i += 1;
-    }
-    Ok(())
+fn value(rt: &impl Print, n: u64) -> io::Result<()> {
+    rt.write_all(b" ")?;
+    rt.print(n)
 }
 
 // The tag by its name and the values, noughts at the end left out; or the refusal.
@@ -92,30 +69,19 @@ pub fn answer(rt: &impl Print, out: &[u64]) -> io::Result<()> {
         rt.write_all(b"refused ")?;
         return rt.print(number);
     }
-    tag(rt, words::get(out, 0))?;
-    values(rt, out, 1, used(out))
-}
-
-fn wide(b: u8) -> u64 {
-    b as u64
-}
-
-fn image(rt: &impl Print, bytes: &[u8], size: u64) -> io::Result<()> {
-    rt.write_all(b" ")?;
-    let mut i: usize = 0;
-    while i < bytes.len() {
-        if size <= (i as u64) {
-            return Ok(());
-        }
-        print!(rt; "{:02x}", wide(bytes[i]))?;
-        i += 1;
+    rt.write_all(tag(words::get(out, 0)).as_bytes())?;
+    for i in 1..used(out) {
+        value(rt, words::get(out, i))?;
     }
     Ok(())
 }
 
-// How many numbers of a deadlock there can be.
-fn most(n: u64) -> usize {
-    if n < 256 { n as usize } else { 256 }
+fn image(rt: &impl Print, bytes: &[u8], size: u64) -> io::Result<()> {
+    rt.write_all(b" ")?;
+    for b in bytes.iter().take(size as usize) {
+        print!(rt; "{b:02x}")?;
+    }
+    Ok(())
 }
 
 // What a call answers beside `out`: the numbers of a deadlock, or an image's bytes.
@@ -131,71 +97,49 @@ pub fn beside(
     }
     let n = words::get(out, 1);
     if words::get(out, 0) == DEADLOCKED {
-        return values(rt, waiting, 0, most(n));
+        for thread in waiting.iter().take(n as usize) {
+            value(rt, *thread)?;
+        }
+        return Ok(());
     }
-    if lex::is_word(line, 0, b"timer_image") {
-        return image(rt, bytes, n);
-    }
-    if lex::is_word(line, 0, b"dpc_image") {
+    if lex::is_word(line, 0, b"timer_image") || lex::is_word(line, 0, b"dpc_image") {
         return image(rt, bytes, n);
     }
     Ok(())
 }
 
-fn same(kept: &[u64], at: usize, out: &[u64]) -> bool {
-    let mut i: usize = 0;
-    while i < ANSWER {
-        if words::get_in(kept, at, i) != words::get(out, i) {
-            return false;
-        }
-        i += 1;
-    }
-    true
-}
-
-fn keep(kept: &mut [u64], at: usize, out: &[u64]) {
-    let mut i: usize = 0;
-    while i < ANSWER {
-        words::put_in(kept, at, i, words::get(out, i));
-        i += 1;
-    }
+// Where an answer's words are kept, by its place.
+fn words_at(place: usize) -> usize {
+    place.saturating_mul(ANSWER)
 }
 
 // Whether the answer is none, and so was the last one shown at this place, or none has been.
-pub fn is_past(kept: &[u64], at: usize, out: &[u64]) -> bool {
-    if words::get(out, 0) != NONE {
-        return false;
-    }
-    let last = words::get_in(kept, at, 0);
-    if last == 0 {
-        return true;
-    }
-    last == NONE
+pub fn is_past(kept: &[u64], place: usize, out: &[u64]) -> bool {
+    words::get(out, 0) == NONE && matches!(words::get_in(kept, words_at(place), 0), 0 | NONE)
 }
 
 // Whether the answer differs from the last one shown at this place; it is the last one now.
-pub fn is_news(kept: &mut [u64], at: usize, out: &[u64]) -> bool {
-    if same(kept, at, out) {
-        return false;
+pub fn is_news(kept: &mut [u64], place: usize, out: &[u64]) -> bool {
+    let at = words_at(place);
+    let mut news = false;
+    for i in 0..ANSWER {
+        let word = words::get(out, i);
+        if words::get_in(kept, at, i) != word {
+            words::put_in(kept, at, i, word);
+            news = true;
+        }
     }
-    keep(kept, at, out);
-    true
+    news
 }
 
 // The name of a read.
-pub fn title(rt: &impl Print, name: &[u8]) -> io::Result<()> {
-    rt.write_all(b"  ")?;
-    rt.write_all(name)?;
-    rt.write_all(b": ")
+pub fn title(rt: &impl Print, name: &str) -> io::Result<()> {
+    print!(rt; "  {name}: ")
 }
 
 // The name of a read and its argument.
-pub fn title_of(rt: &impl Print, name: &[u8], argument: u64) -> io::Result<()> {
-    rt.write_all(b"  ")?;
-    rt.write_all(name)?;
-    rt.write_all(b" ")?;
-    rt.print(argument)?;
-    rt.write_all(b": ")
+pub fn title_of(rt: &impl Print, name: &str, argument: u64) -> io::Result<()> {
+    print!(rt; "  {name} {argument}: ")
 }
 
 pub fn end_line(rt: &impl Print) -> io::Result<()> {
