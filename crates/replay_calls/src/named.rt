@@ -94,45 +94,68 @@ fn insert_and_remove(w: &mut [u64], out: &mut [u64], n: &[u64]) -> u64 {
 }
 
 // The name that a line begins with.
-fn name(line: &[u8]) -> &[u8] {
+fn name_of(line: &[u8]) -> &[u8] {
     let from = lex::word_start(line, 0);
     let to = lex::word_end(line, from);
     line.get(from..to).unwrap_or(&[])
 }
 
-// The call that a line names. Those that lend something beside `out` or take a list come first, then calls on threads, objects, timers and
-// DPCs, then reads.
-pub fn call(
-    w: &mut [u64],
-    waiting: &mut [u64],
-    bytes: &mut [u8],
-    out: &mut [u64],
-    line: &[u8],
-    n: &[u64],
-) -> u64 {
+fn dpc_read(w: &[u64], out: &mut [u64], name: &[u8], n: &[u64]) -> u64 {
+    let a = words::get(n, 0);
+    match name {
+        b"dpc" => dpc_calls::scheduler_dpc(w, a, out),
+        b"dpcs" => dpc_calls::scheduler_dpcs(w, a, out),
+        b"active_dpc" => dpc_calls::scheduler_active_dpc(w, out),
+        b"next_dpc" => dpc_calls::scheduler_next_dpc(w, out),
+        b"queued_dpcs" => dpc_calls::scheduler_queued_dpcs(w, a, out),
+        b"dpc_policy" => dpc_calls::scheduler_dpc_policy(w, out),
+        b"dpc_counters" => dpc_calls::scheduler_dpc_counters(w, out),
+        b"dpc_initializations" => dpc_calls::scheduler_dpc_initializations(w, out),
+        _ => UNREAD,
+    }
+}
+
+fn timer_read(w: &[u64], out: &mut [u64], name: &[u8], n: &[u64]) -> u64 {
+    let a = words::get(n, 0);
+    let b = words::get(n, 1);
+    match name {
+        b"require_timer_release" => timer_calls::scheduler_require_timer_release(w, a, b, out),
+        b"timer" => timer_calls::scheduler_timer(w, a, out),
+        b"timers" => timer_calls::scheduler_timers(w, a, out),
+        b"pending_timer_dpc" => timer_calls::scheduler_pending_timer_dpc(w, out),
+        b"timer_initializations" => timer_calls::scheduler_timer_initializations(w, out),
+        b"timer_read_overlap" => timer_calls::scheduler_timer_read_overlap(w, a, b, out),
+        b"timer_metadata_overlap" => timer_calls::scheduler_timer_metadata_overlap(w, a, b, out),
+        _ => dpc_read(w, out, name, n),
+    }
+}
+
+fn object_read(w: &[u64], out: &mut [u64], name: &[u8], n: &[u64]) -> u64 {
     let a = words::get(n, 0);
     let b = words::get(n, 1);
     let c = words::get(n, 2);
-    match name(line) {
-        b"open" => open(w, out, n),
-        b"wait" => wait(w, out, n),
-        b"dispatch" => dispatch(w, waiting, out, n),
-        b"timer_image" => timer_image(w, bytes, out, n),
-        b"dpc_image" => dpc_image(w, bytes, out, n),
-        b"insert_and_remove" => insert_and_remove(w, out, n),
-        b"create_thread" => scheduler_calls::scheduler_create_thread(w, a, out),
-        b"priority" => scheduler_calls::scheduler_priority(w, a, b, out),
-        b"yield_current" => scheduler_calls::scheduler_yield_current(w, out),
-        b"terminate" => scheduler_calls::scheduler_terminate(w, low(a), out),
-        b"delay_until" => scheduler_calls::scheduler_delay_until(w, a, lowest(b), out),
-        b"advance_to" => scheduler_calls::scheduler_advance_to(w, a, out),
-        b"initialize_mutex" => scheduler_calls::scheduler_initialize_mutex(w, a, out),
-        b"adopt_mutex" => scheduler_calls::scheduler_adopt_mutex(w, a, b, c, out),
-        b"release_mutex" => scheduler_calls::scheduler_release_mutex(w, a, out),
-        b"initialize_event" => scheduler_calls::scheduler_initialize_event(w, a, b, c, out),
-        b"set_event" => scheduler_calls::scheduler_set_event(w, a, out),
-        b"reset_event" => scheduler_calls::scheduler_reset_event(w, a, out),
-        b"retire_event_backing" => scheduler_calls::scheduler_retire_event_backing(w, a, b, c, out),
+    match name {
+        b"words_needed" => scheduler_calls::scheduler_words_needed(a, b, c, out),
+        b"current" => scheduler_calls::scheduler_current(w, out),
+        b"thread" => thread_calls::scheduler_thread(w, a, out),
+        b"threads" => thread_calls::scheduler_threads(w, a, out),
+        b"waited_object" => thread_calls::scheduler_waited_object(w, a, b, out),
+        b"mutex_owner" => scheduler_calls::scheduler_mutex_owner(w, a, out),
+        b"mutex_waiters" => scheduler_calls::scheduler_mutex_waiters(w, a, out),
+        b"event_state" => scheduler_calls::scheduler_event_state(w, a, out),
+        b"event_states" => scheduler_calls::scheduler_event_states(w, a, out),
+        b"require_event_release" => scheduler_calls::scheduler_require_event_release(
+            w, a, b, c, out,
+        ),
+        _ => timer_read(w, out, name, n),
+    }
+}
+
+fn timer_call(w: &mut [u64], out: &mut [u64], line: &[u8], name: &[u8], n: &[u64]) -> u64 {
+    let a = words::get(n, 0);
+    let b = words::get(n, 1);
+    let c = words::get(n, 2);
+    match name {
         b"initialize_timer" => timer_calls::scheduler_initialize_timer(
             w,
             a,
@@ -181,33 +204,52 @@ pub fn call(
         b"start_dpc" => dpc_calls::scheduler_start_dpc(w, a, out),
         b"returned_dpc" => dpc_calls::scheduler_returned_dpc(w, a, b, out),
         b"restored_dpc" => dpc_calls::scheduler_restored_dpc(w, a, b, out),
-        b"words_needed" => scheduler_calls::scheduler_words_needed(a, b, c, out),
-        b"current" => scheduler_calls::scheduler_current(w, out),
-        b"thread" => thread_calls::scheduler_thread(w, a, out),
-        b"threads" => thread_calls::scheduler_threads(w, a, out),
-        b"waited_object" => thread_calls::scheduler_waited_object(w, a, b, out),
-        b"mutex_owner" => scheduler_calls::scheduler_mutex_owner(w, a, out),
-        b"mutex_waiters" => scheduler_calls::scheduler_mutex_waiters(w, a, out),
-        b"event_state" => scheduler_calls::scheduler_event_state(w, a, out),
-        b"event_states" => scheduler_calls::scheduler_event_states(w, a, out),
-        b"require_event_release" => scheduler_calls::scheduler_require_event_release(
-            w, a, b, c, out,
-        ),
-        b"require_timer_release" => timer_calls::scheduler_require_timer_release(w, a, b, out),
-        b"timer" => timer_calls::scheduler_timer(w, a, out),
-        b"timers" => timer_calls::scheduler_timers(w, a, out),
-        b"pending_timer_dpc" => timer_calls::scheduler_pending_timer_dpc(w, out),
-        b"timer_initializations" => timer_calls::scheduler_timer_initializations(w, out),
-        b"timer_read_overlap" => timer_calls::scheduler_timer_read_overlap(w, a, b, out),
-        b"timer_metadata_overlap" => timer_calls::scheduler_timer_metadata_overlap(w, a, b, out),
-        b"dpc" => dpc_calls::scheduler_dpc(w, a, out),
-        b"dpcs" => dpc_calls::scheduler_dpcs(w, a, out),
-        b"active_dpc" => dpc_calls::scheduler_active_dpc(w, out),
-        b"next_dpc" => dpc_calls::scheduler_next_dpc(w, out),
-        b"queued_dpcs" => dpc_calls::scheduler_queued_dpcs(w, a, out),
-        b"dpc_policy" => dpc_calls::scheduler_dpc_policy(w, out),
-        b"dpc_counters" => dpc_calls::scheduler_dpc_counters(w, out),
-        b"dpc_initializations" => dpc_calls::scheduler_dpc_initializations(w, out),
-        _ => UNREAD,
+        _ => object_read(w, out, name, n),
+    }
+}
+
+fn object_call(w: &mut [u64], out: &mut [u64], line: &[u8], name: &[u8], n: &[u64]) -> u64 {
+    let a = words::get(n, 0);
+    let b = words::get(n, 1);
+    let c = words::get(n, 2);
+    match name {
+        b"initialize_mutex" => scheduler_calls::scheduler_initialize_mutex(w, a, out),
+        b"adopt_mutex" => scheduler_calls::scheduler_adopt_mutex(w, a, b, c, out),
+        b"release_mutex" => scheduler_calls::scheduler_release_mutex(w, a, out),
+        b"initialize_event" => scheduler_calls::scheduler_initialize_event(w, a, b, c, out),
+        b"set_event" => scheduler_calls::scheduler_set_event(w, a, out),
+        b"reset_event" => scheduler_calls::scheduler_reset_event(w, a, out),
+        b"retire_event_backing" => scheduler_calls::scheduler_retire_event_backing(w, a, b, c, out),
+        _ => timer_call(w, out, line, name, n),
+    }
+}
+
+// The call that a line names. Those that lend something beside `out` or take a list come first, then calls on threads, objects, timers and
+// DPCs, then reads: one `match` of them all has more arms than the borrow checker takes.
+pub fn call(
+    w: &mut [u64],
+    waiting: &mut [u64],
+    bytes: &mut [u8],
+    out: &mut [u64],
+    line: &[u8],
+    n: &[u64],
+) -> u64 {
+    let a = words::get(n, 0);
+    let b = words::get(n, 1);
+    let name = name_of(line);
+    match name {
+        b"open" => open(w, out, n),
+        b"wait" => wait(w, out, n),
+        b"dispatch" => dispatch(w, waiting, out, n),
+        b"timer_image" => timer_image(w, bytes, out, n),
+        b"dpc_image" => dpc_image(w, bytes, out, n),
+        b"insert_and_remove" => insert_and_remove(w, out, n),
+        b"create_thread" => scheduler_calls::scheduler_create_thread(w, a, out),
+        b"priority" => scheduler_calls::scheduler_priority(w, a, b, out),
+        b"yield_current" => scheduler_calls::scheduler_yield_current(w, out),
+        b"terminate" => scheduler_calls::scheduler_terminate(w, low(a), out),
+        b"delay_until" => scheduler_calls::scheduler_delay_until(w, a, lowest(b), out),
+        b"advance_to" => scheduler_calls::scheduler_advance_to(w, a, out),
+        _ => object_call(w, out, line, name, n),
     }
 }

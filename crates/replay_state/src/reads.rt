@@ -192,7 +192,7 @@ impl Single {
     }
 }
 
-fn single(rt: &impl Print, what: Single, w: &[u64], kept: &mut [u64]) -> io::Result<()> {
+fn tell_single(rt: &impl Print, what: Single, w: &[u64], kept: &mut [u64]) -> io::Result<()> {
     let out = what.read(w);
     if show::is_news(kept, what.place(), &out) {
         show::title(rt, what.name())?;
@@ -208,7 +208,7 @@ fn threads_and_objects(
     count: usize,
     kept: &mut [u64],
 ) -> io::Result<()> {
-    single(rt, Single::Current, w, kept)?;
+    tell_single(rt, Single::Current, w, kept)?;
     positions(rt, Table::Threads, w, kept)?;
     mutexes(rt, w, count, kept)?;
     positions(rt, Table::Events, w, kept)
@@ -216,18 +216,18 @@ fn threads_and_objects(
 
 fn timers_and_dpcs(rt: &impl Print, w: &[u64], kept: &mut [u64]) -> io::Result<()> {
     positions(rt, Table::Timers, w, kept)?;
-    single(rt, Single::PendingTimer, w, kept)?;
-    single(rt, Single::TimerInitializations, w, kept)?;
+    tell_single(rt, Single::PendingTimer, w, kept)?;
+    tell_single(rt, Single::TimerInitializations, w, kept)?;
     positions(rt, Table::Dpcs, w, kept)?;
-    single(rt, Single::DpcInitializations, w, kept)
+    tell_single(rt, Single::DpcInitializations, w, kept)
 }
 
 fn work(rt: &impl Print, w: &[u64], kept: &mut [u64]) -> io::Result<()> {
     positions(rt, Table::Queue, w, kept)?;
-    single(rt, Single::Active, w, kept)?;
-    single(rt, Single::Next, w, kept)?;
-    single(rt, Single::Policy, w, kept)?;
-    single(rt, Single::Counters, w, kept)
+    tell_single(rt, Single::Active, w, kept)?;
+    tell_single(rt, Single::Next, w, kept)?;
+    tell_single(rt, Single::Policy, w, kept)?;
+    tell_single(rt, Single::Counters, w, kept)
 }
 
 pub fn state(rt: &impl Print, w: &[u64], count: usize, kept: &mut [u64]) -> io::Result<()> {
