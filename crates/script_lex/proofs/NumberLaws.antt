@@ -1,18 +1,15 @@
 -- A number at each of its digits.
-use mathlib.Core.Path.{◌≡◌, refl, sym, ◌∙◌}
+use mathlib.Core.Path.{◌≡◌, refl, sym, ap, ◌∙◌}
 use mathlib.Core.Bool.{Bool, true, false, false≢true, ◌&&◌}
 use mathlib.Core.List.{List, [], ◌∷◌}
+use Rattle.std.specs.Prelude.{Option, Some, None}
 use Prim.Native.Nat.{ℕ, ◌+◌, ◌-◌, ◌*◌, ◌^◌, ◌≤◌, ◌<◌}
 use native.Mathlib.Omega.{arith}
 use borrow.Author.Tests.{leb-true, leb-false, le-leb, lt-leb, eq-eqb, ne_eqb}
 use lib.Dec.{leb}
 use lib.ListN.{length, get_or}
-use Rattle.script_lex.specs.declared.lex.Number.{Number}
-use Rattle.script_lex.specs.declared.lex.Number.TheVariants as number
-use Rattle.script_lex.specs.declared.arguments.Two.TheVariants as two
 use Rattle.script_lex.specs.Words.{part, first, others, none}
 use Rattle.script_lex.specs.Arguments.{one_of, two_of, join_two}
-use Rattle.script_lex.specs.declared.lex.Signed.TheVariants as signed
 use Rattle.script_lex.specs.Numbers.{is_digit, with_digit, takes, all_digits, value, number_from, number_of, plus, minus, signed_of}
 use Rattle.script_lex.proofs.Cases.{either}
 use Rattle.script_lex.proofs.WordLaws.{part-cons, part-empty}
@@ -63,7 +60,7 @@ module _ (limit n b : ℕ) (w : List ℕ) where
   unfolding number_from all_digits value
   more e = simp (taken limit n b e).digit
 
-  stop : takes limit n b ≡ false → number_from limit n (b ∷ w) ≡ number.Unread
+  stop : takes limit n b ≡ false → number_from limit n (b ∷ w) ≡ None
   unfolding number_from all_digits value takes
   stop e =
       either (is_digit b)
@@ -73,17 +70,17 @@ module _ (limit n b : ℕ) (w : List ℕ) where
       (λ d. simp d)
 
 module _ (limit n at to : ℕ) (s : List ℕ) where
-  pub number-end : to ≤ at → n ≤ limit → number_from limit n (part at to s) ≡ number.Read n
+  pub number-end : to ≤ at → n ≤ limit → number_from limit n (part at to s) ≡ Some n
   unfolding number_from all_digits value
   number-end h l = simp (part-empty at to s h, le-leb _ _ l)
 
-  pub number-stop : at < to → to ≤ length s → takes limit n (get_or s at 0) ≡ false → number_from limit n (part at to s) ≡ number.Unread
+  pub number-stop : at < to → to ≤ length s → takes limit n (get_or s at 0) ≡ false → number_from limit n (part at to s) ≡ None
   number-stop h k e = simp (part-cons at to s h k) (stop limit n (get_or s at 0) (part (at + 1) to s) e)
 
   pub number_more : at < to → to ≤ length s → takes limit n (get_or s at 0) ≡ true → number_from limit n (part at to s) ≡ number_from limit (with_digit n (get_or s at 0)) (part (at + 1) to s)
   number_more h k e = simp (part-cons at to s h k) (more limit n (get_or s at 0) (part (at + 1) to s) e)
 
-pub number-none : (limit from to : ℕ) (s : List ℕ) → to ≤ from → number_of limit (part from to s) ≡ number.Unread
+pub number-none : (limit from to : ℕ) (s : List ℕ) → to ≤ from → number_of limit (part from to s) ≡ None
 unfolding number_of
 number-none limit from to s h = simp (part-empty from to s h)
 
@@ -96,7 +93,7 @@ and_right true y e = e
 and_right false y e = absurd (false≢true e)
 
 -- a number that is read is within its limit
-pub within : (limit n : ℕ) (w : List ℕ) → number.Read n ≡ number_of limit w → n ≤ limit
+pub within : (limit n : ℕ) (w : List ℕ) → Some n ≡ number_of limit w → n ≤ limit
 unfolding number_of number_from
 within limit n [] e = absurd (let z : ◌≡◌ {A = ℕ} 0 1 = cc in omega arith)
 within limit n (b ∷ w) e =
@@ -115,24 +112,24 @@ module _ (from to : ℕ) (s : List ℕ) (h : from < to) (k : to ≤ length s) wh
   unfolding signed_of
   signed-plus n = simp (part-cons from to s h k, ne_eqb _ _ n)
 
-pub signed-none : (from to : ℕ) (s : List ℕ) → to ≤ from → signed_of (part from to s) ≡ signed.Unread
+pub signed-none : (from to : ℕ) (s : List ℕ) → to ≤ from → signed_of (part from to s) ≡ None
 unfolding signed_of number_of plus
 signed-none from to s h = simp (part-empty from to s h)
 
 -- ---- the same of arguments
 
-pub one-within : (limit n : ℕ) (ws : List (List ℕ)) → number.Read n ≡ one_of limit ws → n ≤ limit
+pub one-within : (limit n : ℕ) (ws : List (List ℕ)) → Some n ≡ one_of limit ws → n ≤ limit
 unfolding one_of
 one-within limit n ws e =
     either (none (others ws))
     (λ t. within limit n (first ws) (simp t at e))
     (λ t. absurd (let q = simp t at e in let z : ◌≡◌ {A = ℕ} 0 1 = cc in omega arith))
 
-pub last_within : (limit last a b : ℕ) (ws : List (List ℕ)) → two.Read a b ≡ two_of limit last ws → b ≤ last
+pub last_within : (limit last a b : ℕ) (ws : List (List ℕ)) → Some (a, b) ≡ two_of limit last ws → b ≤ last
 unfolding two_of join_two
 last_within limit last a b ws e = go (number_of limit (first ws)) (one_of last (others ws)) refl e
   where
-    go : (x y : Number) → one_of last (others ws) ≡ y → two.Read a b ≡ join_two x y → b ≤ last
-    go (number.Read m) (number.Read n) f e = let z : b ≡ n = cc in one-within last b (others ws) (cc)
-    go (number.Read m) number.Unread f e = absurd (let z : ◌≡◌ {A = ℕ} 0 1 = cc in omega arith)
-    go number.Unread y f e = absurd (let z : ◌≡◌ {A = ℕ} 0 1 = cc in omega arith)
+    go : (x y : Option ℕ) → one_of last (others ws) ≡ y → Some (a, b) ≡ join_two x y → b ≤ last
+    go (Some m) (Some n) f e = let p : ◌≡◌ {A = ℕ × ℕ} (a, b) (m, n) = cc in let z : b ≡ n = ap (λ (q : ℕ × ℕ). q.1) p in one-within last b (others ws) (cc)
+    go (Some m) None f e = absurd (let z : ◌≡◌ {A = ℕ} 0 1 = cc in omega arith)
+    go None y f e = absurd (let z : ◌≡◌ {A = ℕ} 0 1 = cc in omega arith)

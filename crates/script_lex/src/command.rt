@@ -4,8 +4,6 @@ use images::TimerBacking;
 
 #[derive(Clone, Copy)]
 pub enum Command {
-    // The line cannot be read.
-    Unread,
     Open(u64),
     Event {
         key: u64,

@@ -3,18 +3,6 @@ ghost use Rattle.std.specs.Prelude.{◌≡◌, true, ◌+◌, ◌≤◌, pos, ne
 ghost use Rattle.script_lex.specs.Words.{blank, blanks, letters, part, words_at, first, others, none, same};
 ghost use Rattle.script_lex.specs.Numbers.{takes, with_digit, number_of, plus, minus, signed_of};
 
-#[derive(Clone, Copy)]
-pub enum Number {
-    Unread,
-    Read(u64),
-}
-
-#[derive(Clone, Copy)]
-pub enum Signed {
-    Unread,
-    Read(i32),
-}
-
 fn is_blank(b: u8) -> bool
     ensures { result ≡ blank b }
 {
@@ -127,34 +115,34 @@ fn with_digit(limit: u64, n: u64, b: u8) -> u64
 }
 
 // The number whose digits stand from `from` to `to`, if it is within the limit.
-fn number_in(line: &[u8], from: usize, to: usize, limit: u64) -> Number
+fn number_in(line: &[u8], from: usize, to: usize, limit: u64) -> Option<u64>
     requires { (from ≤ to) × (to ≤ length line.now) }
     ensures { result ≡ number_of limit (part from to line.now) }
 {
     if to <= from {
-        return Number::Unread;
+        return None;
     }
     let mut at = from;
     let mut n: u64 = 0;
     while at < to {
         let b = line[at];
         if !takes(limit, n, b) {
-            return Number::Unread;
+            return None;
         }
         n = with_digit(limit, n, b);
         at += 1;
     }
-    Number::Read(n)
+    Some(n)
 }
 
 // The number that the first word tells, if it is within the limit.
-pub fn number_at(line: &[u8], at: usize, limit: u64) -> Number
+pub fn number_at(line: &[u8], at: usize, limit: u64) -> Option<u64>
     ensures { result ≡ number_of limit (first (words_at line.now at)) }
 {
     let from = word_start(line, at);
     let to = word_end(line, from);
     if line.len() < to {
-        return Number::Unread;
+        return None;
     }
     number_in(line, from, to, limit)
 }
@@ -167,37 +155,33 @@ fn negated(n: u64) -> i32
     (0 - (n as i64)) as i32
 }
 
-fn minus_in(line: &[u8], from: usize, to: usize) -> Signed
+fn minus_in(line: &[u8], from: usize, to: usize) -> Option<i32>
     requires { (from ≤ to) × (to ≤ length line.now) }
     ensures { result ≡ minus (number_of 2147483648 (part from to line.now)) }
 {
-    match number_in(line, from, to, 2_147_483_648) {
-        Number::Unread => Signed::Unread,
-        Number::Read(n) => Signed::Read(negated(n)),
-    }
+    let n = number_in(line, from, to, 2_147_483_648)?;
+    Some(negated(n))
 }
 
-fn plus_in(line: &[u8], from: usize, to: usize) -> Signed
+fn plus_in(line: &[u8], from: usize, to: usize) -> Option<i32>
     requires { (from ≤ to) × (to ≤ length line.now) }
     ensures { result ≡ plus (number_of 2147483647 (part from to line.now)) }
 {
-    match number_in(line, from, to, 2_147_483_647) {
-        Number::Unread => Signed::Unread,
-        Number::Read(n) => Signed::Read(n as i32),
-    }
+    let n = number_in(line, from, to, 2_147_483_647)?;
+    Some(n as i32)
 }
 
 // The signed number that the first word tells.
-pub fn signed_at(line: &[u8], at: usize) -> Signed
+pub fn signed_at(line: &[u8], at: usize) -> Option<i32>
     ensures { result ≡ signed_of (first (words_at line.now at)) }
 {
     let from = word_start(line, at);
     let to = word_end(line, from);
     if line.len() < to {
-        return Signed::Unread;
+        return None;
     }
     if to <= from {
-        return Signed::Unread;
+        return None;
     }
     if line[from] == b'-' {
         return minus_in(line, from + 1, to);
