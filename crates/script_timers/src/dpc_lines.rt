@@ -1,129 +1,92 @@
 // The lines of the calls on DPCs.
-ghost use Rattle.std.specs.Prelude.{◌≡◌};
+#![tactic(auto, unfolding(script_lex::specs::Arguments::with_one, script_lex::specs::Arguments::with_two, script_lex::specs::Arguments::with_three))]
+
+ghost use Rattle.std.specs.Prelude.{◌≡◌, Some};
 ghost use Rattle.script_lex.specs.Words.{words_at};
 ghost use Rattle.script_lex.specs.Arguments.{most, one_of, two_of, three_of, with_one, with_two, with_three};
 ghost use Rattle.script_timers.specs.Dpc.{routine_behind, initialize_dpc_line, dpc_work_line, dpc_line};
 ghost use Rattle.script_lex.specs.declared.command.Command.TheVariants as command;
 
-use arch::Architecture;
-use images::TimerBacking;
-use script_lex::arguments::{Three, Two};
 use script_lex::command::Command;
-use script_lex::lex::Number;
 use script_lex::location::Location;
 use script_lex::{arguments, lex, location};
 
 // Behind the location: the routine and the context.
-fn read_routine(
-    line: &[u8],
-    at: usize,
-    address: u64,
-    architecture: Architecture,
-    backing: TimerBacking,
-) -> Command
-    ensures { result ≡ routine_behind address architecture backing (words_at line.now at) }
+#[tactic(auto, unfolding(crate::specs::Dpc::routine_behind, script_lex::specs::Arguments::with_two))]
+fn read_routine(line: &[u8], at: usize, place: Location) -> Option<Command>
+    ensures { result ≡ routine_behind place.address place.architecture place.backing (words_at line.now at) }
 {
-    match arguments::two_numbers(line, at, u64::MAX, u64::MAX) {
-        Two::Unread => Command::Unread,
-        Two::Read(routine, context) => Command::InitializeDpc {
-            address,
-            architecture,
-            backing,
-            routine,
-            context,
-        },
-    }
+    let (routine, context) = arguments::two_numbers(line, at, u64::MAX, u64::MAX)?;
+    Some(Command::InitializeDpc {
+        address: place.address,
+        architecture: place.architecture,
+        backing: place.backing,
+        routine,
+        context,
+    })
 }
 
-fn read_initialize_dpc(line: &[u8], at: usize) -> Command
+#[tactic(auto, unfolding(crate::specs::Dpc::initialize_dpc_line, script_lex::specs::Location::with_location))]
+fn read_initialize_dpc(line: &[u8], at: usize) -> Option<Command>
     ensures { result ≡ initialize_dpc_line (words_at line.now at) }
 {
-    let Location::Read {
+    let place = location::location_at(line, at)?;
+    read_routine(line, location::behind_location(line, at), place)
+}
+
+fn read_configure_dpc_dispatch(line: &[u8], at: usize) -> Option<Command>
+    ensures { result ≡ with_two (λ a b. Some (command.ConfigureDpcDispatch a b)) (two_of most most (words_at line.now at)) }
+{
+    let (first, second) = arguments::two_numbers(line, at, u64::MAX, u64::MAX)?;
+    Some(Command::ConfigureDpcDispatch { first, second })
+}
+
+fn read_queued_dpcs(line: &[u8], at: usize) -> Option<Command>
+    ensures { result ≡ with_one (λ n. Some (command.QueuedDpcs n)) (one_of most (words_at line.now at)) }
+{
+    arguments::one_number(line, at, u64::MAX).map(Command::QueuedDpcs)
+}
+
+fn read_insert_queue_dpc(line: &[u8], at: usize) -> Option<Command>
+    ensures { result ≡ with_three (λ a b c. Some (command.InsertQueueDpc a b c)) (three_of (words_at line.now at)) }
+{
+    let (address, first, second) = arguments::three_numbers(line, at)?;
+    Some(Command::InsertQueueDpc {
         address,
-        architecture,
-        backing,
-    } = location::location_at(line, at)
-    else {
-        return Command::Unread;
-    };
-    read_routine(
-        line,
-        location::behind_location(line, at),
-        address,
-        architecture,
-        backing,
-    )
+        first,
+        second,
+    })
 }
 
-fn read_configure_dpc_dispatch(line: &[u8], at: usize) -> Command
-    ensures { result ≡ with_two command.ConfigureDpcDispatch (two_of most most (words_at line.now at)) }
+fn read_remove_queue_dpc(line: &[u8], at: usize) -> Option<Command>
+    ensures { result ≡ with_one (λ n. Some (command.RemoveQueueDpc n)) (one_of most (words_at line.now at)) }
 {
-    match arguments::two_numbers(line, at, u64::MAX, u64::MAX) {
-        Two::Unread => Command::Unread,
-        Two::Read(first, second) => Command::ConfigureDpcDispatch { first, second },
-    }
+    arguments::one_number(line, at, u64::MAX).map(Command::RemoveQueueDpc)
 }
 
-fn read_queued_dpcs(line: &[u8], at: usize) -> Command
-    ensures { result ≡ with_one command.QueuedDpcs (one_of most (words_at line.now at)) }
+fn read_start_dpc(line: &[u8], at: usize) -> Option<Command>
+    ensures { result ≡ with_one (λ n. Some (command.StartDpc n)) (one_of most (words_at line.now at)) }
 {
-    match arguments::one_number(line, at, u64::MAX) {
-        Number::Unread => Command::Unread,
-        Number::Read(n) => Command::QueuedDpcs(n),
-    }
+    arguments::one_number(line, at, u64::MAX).map(Command::StartDpc)
 }
 
-fn read_insert_queue_dpc(line: &[u8], at: usize) -> Command
-    ensures { result ≡ with_three command.InsertQueueDpc (three_of (words_at line.now at)) }
+fn read_returned_dpc(line: &[u8], at: usize) -> Option<Command>
+    ensures { result ≡ with_two (λ a b. Some (command.ReturnedDpc a b)) (two_of most most (words_at line.now at)) }
 {
-    match arguments::three_numbers(line, at) {
-        Three::Unread => Command::Unread,
-        Three::Read(address, first, second) => Command::InsertQueueDpc {
-            address,
-            first,
-            second,
-        },
-    }
+    let (address, sequence) = arguments::two_numbers(line, at, u64::MAX, u64::MAX)?;
+    Some(Command::ReturnedDpc { address, sequence })
 }
 
-fn read_remove_queue_dpc(line: &[u8], at: usize) -> Command
-    ensures { result ≡ with_one command.RemoveQueueDpc (one_of most (words_at line.now at)) }
+fn read_restored_dpc(line: &[u8], at: usize) -> Option<Command>
+    ensures { result ≡ with_two (λ a b. Some (command.RestoredDpc a b)) (two_of most most (words_at line.now at)) }
 {
-    match arguments::one_number(line, at, u64::MAX) {
-        Number::Unread => Command::Unread,
-        Number::Read(n) => Command::RemoveQueueDpc(n),
-    }
-}
-
-fn read_start_dpc(line: &[u8], at: usize) -> Command
-    ensures { result ≡ with_one command.StartDpc (one_of most (words_at line.now at)) }
-{
-    match arguments::one_number(line, at, u64::MAX) {
-        Number::Unread => Command::Unread,
-        Number::Read(n) => Command::StartDpc(n),
-    }
-}
-
-fn read_returned_dpc(line: &[u8], at: usize) -> Command
-    ensures { result ≡ with_two command.ReturnedDpc (two_of most most (words_at line.now at)) }
-{
-    match arguments::two_numbers(line, at, u64::MAX, u64::MAX) {
-        Two::Unread => Command::Unread,
-        Two::Read(address, sequence) => Command::ReturnedDpc { address, sequence },
-    }
-}
-
-fn read_restored_dpc(line: &[u8], at: usize) -> Command
-    ensures { result ≡ with_two command.RestoredDpc (two_of most most (words_at line.now at)) }
-{
-    match arguments::two_numbers(line, at, u64::MAX, u64::MAX) {
-        Two::Unread => Command::Unread,
-        Two::Read(address, sequence) => Command::RestoredDpc { address, sequence },
-    }
+    let (address, sequence) = arguments::two_numbers(line, at, u64::MAX, u64::MAX)?;
+    Some(Command::RestoredDpc { address, sequence })
 }
 
 // The lines of the queue and of work.
-fn read_dpc_work(line: &[u8], at: usize) -> Command
+#[tactic(auto, unfolding(crate::specs::Dpc::dpc_work_line))]
+fn read_dpc_work(line: &[u8], at: usize) -> Option<Command>
     ensures { result ≡ dpc_work_line (words_at line.now at) }
 {
     let rest = lex::behind(line, at);
@@ -142,10 +105,11 @@ fn read_dpc_work(line: &[u8], at: usize) -> Command
     if lex::is_word(line, at, b"restored_dpc") {
         return read_restored_dpc(line, rest);
     }
-    Command::Unread
+    None
 }
 
-pub fn read_dpcs(line: &[u8], at: usize) -> Command
+#[tactic(auto, unfolding(crate::specs::Dpc::dpc_line))]
+pub fn read_dpcs(line: &[u8], at: usize) -> Option<Command>
     ensures { result ≡ dpc_line (words_at line.now at) }
 {
     let rest = lex::behind(line, at);
