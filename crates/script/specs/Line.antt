@@ -1,6 +1,5 @@
 -- The reading of a line.
-use Rattle.std.specs.Prelude.{cond, List, ℕ, ◌-◌, eqb, ltb, length, get_or, take}
-use Rattle.script_lex.specs.declared.command.Command.TheVariants as command
+use Rattle.std.specs.Prelude.{cond, List, ℕ, ◌-◌, eqb, ltb, length, get_or, take, None}
 use Rattle.script_lex.specs.Names as name
 use Rattle.script_lex.specs.Words.{words_of, first, others, same}
 use Rattle.script.specs.Wait.{Taken, taken, wait_line}
@@ -15,4 +14,4 @@ text_line ws l = cond (same (first ws) name.wait) (wait_line (others ws) l) (tak
 
 -- the command of a line, and the list after: a line of more than 4,096 bytes cannot be read
 unfoldable pub read_line : List ℕ → List ℕ → Taken
-read_line s l = cond (ltb 4096 (length s)) (taken command.Unread l) (text_line (words_of (take (text_length s) s)) l)
+read_line s l = cond (ltb 4096 (length s)) (taken None l) (text_line (words_of (take (text_length s) s)) l)

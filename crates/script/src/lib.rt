@@ -27,7 +27,8 @@ pub fn text_length(line: &[u8]) -> usize
     n
 }
 
-fn read_text(line: &[u8], list: &mut [u64]) -> Command
+#[tactic(auto, unfolding(crate::specs::Line::text_line))]
+fn read_text(line: &[u8], list: &mut [u64]) -> Option<Command>
     ensures { taken result list.new ≡ text_line (words_at line.now 0) list.old }
 {
     let rest = lex::behind(line, 0);
@@ -39,11 +40,12 @@ fn read_text(line: &[u8], list: &mut [u64]) -> Command
 
 // The command of a line, which comes without its newline. The kinds and keys of a wait go into the list, as far as they are read;
 // 2,048 numbers always suffice. A list that is too short makes the line unread. The rest of the list stays.
-pub fn read_line(line: &[u8], list: &mut [u64]) -> Command
+#[tactic(auto, unfolding(crate::specs::Line::read_line))]
+pub fn read_line(line: &[u8], list: &mut [u64]) -> Option<Command>
     ensures { taken result list.new ≡ read_line line.now list.old }
 {
     if 4096 < line.len() {
-        return Command::Unread;
+        return None;
     }
     let n = text_length(line);
     read_text(&line[..n], list)

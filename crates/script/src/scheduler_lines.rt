@@ -1,36 +1,30 @@
 // The lines of the scheduler's calls, by their first word. Each reader of one line starts behind that word.
-ghost use Rattle.std.specs.Prelude.{◌≡◌};
+#![tactic(auto, unfolding(script_lex::specs::Arguments::with_one, script_lex::specs::Arguments::with_two, script_lex::specs::Arguments::with_three))]
+
+ghost use Rattle.std.specs.Prelude.{◌≡◌, Some};
 ghost use Rattle.script_lex.specs.Words.{words_at, first};
 ghost use Rattle.script_lex.specs.Arguments.{most, one_of, two_of, three_of, with_one, with_two, with_three};
 ghost use Rattle.script.specs.Scheduler.{flagged, event_line, owned_by, adopt_line, short_line, mutex_line, events_line, thread_line};
 ghost use Rattle.script_lex.specs.declared.command.Command.TheVariants as command;
 
-use script_lex::arguments::{Flag, Three, Two};
 use script_lex::command::Command;
-use script_lex::lex::Number;
 use script_lex::{arguments, lex};
 use script_timers::{clock_lines, timer_lines};
 
-fn read_open(line: &[u8], at: usize) -> Command
-    ensures { result ≡ with_one command.Open (one_of 255 (words_at line.now at)) }
+fn read_open(line: &[u8], at: usize) -> Option<Command>
+    ensures { result ≡ with_one (λ n. Some (command.Open n)) (one_of 255 (words_at line.now at)) }
 {
-    match arguments::one_number(line, at, 255) {
-        Number::Unread => Command::Unread,
-        Number::Read(n) => Command::Open(n),
-    }
+    arguments::one_number(line, at, 255).map(Command::Open)
 }
 
 // Behind the key: the two flags.
-fn read_flags(line: &[u8], at: usize, key: u64) -> Command
+#[tactic(auto, unfolding(crate::specs::Scheduler::flagged, crate::specs::Scheduler::with_flags))]
+fn read_flags(line: &[u8], at: usize, key: u64) -> Option<Command>
     ensures { result ≡ flagged key (words_at line.now at) }
 {
-    let Flag::Read(manual) = arguments::flag_at(line, at) else {
-        return Command::Unread;
-    };
+    let manual = arguments::flag_at(line, at)?;
     let next = lex::behind(line, at);
-    let Flag::Read(signaled) = arguments::flag_at(line, next) else {
-        return Command::Unread;
-    };
+    let signaled = arguments::flag_at(line, next)?;
     arguments::bare(
         line,
         lex::behind(line, next),
@@ -42,137 +36,103 @@ fn read_flags(line: &[u8], at: usize, key: u64) -> Command
     )
 }
 
-fn read_event(line: &[u8], at: usize) -> Command
+#[tactic(auto, unfolding(crate::specs::Scheduler::event_line, script_lex::specs::Arguments::with_one))]
+fn read_event(line: &[u8], at: usize) -> Option<Command>
     ensures { result ≡ event_line (words_at line.now at) }
 {
-    let Number::Read(key) = lex::number_at(line, at, u64::MAX) else {
-        return Command::Unread;
-    };
+    let key = lex::number_at(line, at, u64::MAX)?;
     read_flags(line, lex::behind(line, at), key)
 }
 
-fn read_create(line: &[u8], at: usize) -> Command
-    ensures { result ≡ with_one command.Create (one_of 255 (words_at line.now at)) }
+fn read_create(line: &[u8], at: usize) -> Option<Command>
+    ensures { result ≡ with_one (λ n. Some (command.Create n)) (one_of 255 (words_at line.now at)) }
 {
-    match arguments::one_number(line, at, 255) {
-        Number::Unread => Command::Unread,
-        Number::Read(n) => Command::Create(n),
-    }
+    arguments::one_number(line, at, 255).map(Command::Create)
 }
 
-fn read_set(line: &[u8], at: usize) -> Command
-    ensures { result ≡ with_one command.Set (one_of most (words_at line.now at)) }
+fn read_set(line: &[u8], at: usize) -> Option<Command>
+    ensures { result ≡ with_one (λ n. Some (command.Set n)) (one_of most (words_at line.now at)) }
 {
-    match arguments::one_number(line, at, u64::MAX) {
-        Number::Unread => Command::Unread,
-        Number::Read(n) => Command::Set(n),
-    }
+    arguments::one_number(line, at, u64::MAX).map(Command::Set)
 }
 
-fn read_mutex_owner(line: &[u8], at: usize) -> Command
-    ensures { result ≡ with_one command.MutexOwner (one_of most (words_at line.now at)) }
+fn read_mutex_owner(line: &[u8], at: usize) -> Option<Command>
+    ensures { result ≡ with_one (λ n. Some (command.MutexOwner n)) (one_of most (words_at line.now at)) }
 {
-    match arguments::one_number(line, at, u64::MAX) {
-        Number::Unread => Command::Unread,
-        Number::Read(n) => Command::MutexOwner(n),
-    }
+    arguments::one_number(line, at, u64::MAX).map(Command::MutexOwner)
 }
 
-fn read_mutex_waiters(line: &[u8], at: usize) -> Command
-    ensures { result ≡ with_one command.MutexWaiters (one_of most (words_at line.now at)) }
+fn read_mutex_waiters(line: &[u8], at: usize) -> Option<Command>
+    ensures { result ≡ with_one (λ n. Some (command.MutexWaiters n)) (one_of most (words_at line.now at)) }
 {
-    match arguments::one_number(line, at, u64::MAX) {
-        Number::Unread => Command::Unread,
-        Number::Read(n) => Command::MutexWaiters(n),
-    }
+    arguments::one_number(line, at, u64::MAX).map(Command::MutexWaiters)
 }
 
-fn read_initialize_mutex(line: &[u8], at: usize) -> Command
-    ensures { result ≡ with_one command.InitializeMutex (one_of most (words_at line.now at)) }
+fn read_initialize_mutex(line: &[u8], at: usize) -> Option<Command>
+    ensures { result ≡ with_one (λ n. Some (command.InitializeMutex n)) (one_of most (words_at line.now at)) }
 {
-    match arguments::one_number(line, at, u64::MAX) {
-        Number::Unread => Command::Unread,
-        Number::Read(n) => Command::InitializeMutex(n),
-    }
+    arguments::one_number(line, at, u64::MAX).map(Command::InitializeMutex)
 }
 
-fn read_release_mutex(line: &[u8], at: usize) -> Command
-    ensures { result ≡ with_one command.ReleaseMutex (one_of most (words_at line.now at)) }
+fn read_release_mutex(line: &[u8], at: usize) -> Option<Command>
+    ensures { result ≡ with_one (λ n. Some (command.ReleaseMutex n)) (one_of most (words_at line.now at)) }
 {
-    match arguments::one_number(line, at, u64::MAX) {
-        Number::Unread => Command::Unread,
-        Number::Read(n) => Command::ReleaseMutex(n),
-    }
+    arguments::one_number(line, at, u64::MAX).map(Command::ReleaseMutex)
 }
 
-fn read_reset_event(line: &[u8], at: usize) -> Command
-    ensures { result ≡ with_one command.ResetEvent (one_of most (words_at line.now at)) }
+fn read_reset_event(line: &[u8], at: usize) -> Option<Command>
+    ensures { result ≡ with_one (λ n. Some (command.ResetEvent n)) (one_of most (words_at line.now at)) }
 {
-    match arguments::one_number(line, at, u64::MAX) {
-        Number::Unread => Command::Unread,
-        Number::Read(n) => Command::ResetEvent(n),
-    }
+    arguments::one_number(line, at, u64::MAX).map(Command::ResetEvent)
 }
 
-fn read_advance_to(line: &[u8], at: usize) -> Command
-    ensures { result ≡ with_one command.AdvanceTo (one_of most (words_at line.now at)) }
+fn read_advance_to(line: &[u8], at: usize) -> Option<Command>
+    ensures { result ≡ with_one (λ n. Some (command.AdvanceTo n)) (one_of most (words_at line.now at)) }
 {
-    match arguments::one_number(line, at, u64::MAX) {
-        Number::Unread => Command::Unread,
-        Number::Read(n) => Command::AdvanceTo(n),
-    }
+    arguments::one_number(line, at, u64::MAX).map(Command::AdvanceTo)
 }
 
-fn read_terminate(line: &[u8], at: usize) -> Command
-    ensures { result ≡ with_one command.Terminate (one_of 4294967295 (words_at line.now at)) }
+fn read_terminate(line: &[u8], at: usize) -> Option<Command>
+    ensures { result ≡ with_one (λ n. Some (command.Terminate n)) (one_of 4294967295 (words_at line.now at)) }
 {
-    match arguments::one_number(line, at, 4_294_967_295) {
-        Number::Unread => Command::Unread,
-        Number::Read(n) => Command::Terminate(n as u32),
-    }
+    let n = arguments::one_number(line, at, 4_294_967_295)?;
+    Some(Command::Terminate(n as u32))
 }
 
-fn read_priority(line: &[u8], at: usize) -> Command
-    ensures { result ≡ with_two command.Priority (two_of most 255 (words_at line.now at)) }
+fn read_priority(line: &[u8], at: usize) -> Option<Command>
+    ensures { result ≡ with_two (λ a b. Some (command.Priority a b)) (two_of most 255 (words_at line.now at)) }
 {
-    match arguments::two_numbers(line, at, u64::MAX, 255) {
-        Two::Unread => Command::Unread,
-        Two::Read(id, priority) => Command::Priority { id, priority },
-    }
+    let (id, priority) = arguments::two_numbers(line, at, u64::MAX, 255)?;
+    Some(Command::Priority { id, priority })
 }
 
-fn read_delay_until(line: &[u8], at: usize) -> Command
-    ensures { result ≡ with_two command.DelayUntil (two_of most 255 (words_at line.now at)) }
+fn read_delay_until(line: &[u8], at: usize) -> Option<Command>
+    ensures { result ≡ with_two (λ a b. Some (command.DelayUntil a b)) (two_of most 255 (words_at line.now at)) }
 {
-    match arguments::two_numbers(line, at, u64::MAX, 255) {
-        Two::Unread => Command::Unread,
-        Two::Read(deadline, irql) => Command::DelayUntil {
-            deadline,
-            irql: irql as u8,
-        },
-    }
+    let (deadline, irql) = arguments::two_numbers(line, at, u64::MAX, 255)?;
+    Some(Command::DelayUntil {
+        deadline,
+        irql: irql as u8,
+    })
 }
 
-fn read_require_event_release(line: &[u8], at: usize) -> Command
-    ensures { result ≡ with_three command.RequireEventRelease (three_of (words_at line.now at)) }
+fn read_require_event_release(line: &[u8], at: usize) -> Option<Command>
+    ensures { result ≡ with_three (λ a b c. Some (command.RequireEventRelease a b c)) (three_of (words_at line.now at)) }
 {
-    match arguments::three_numbers(line, at) {
-        Three::Unread => Command::Unread,
-        Three::Read(base, size, layout) => Command::RequireEventRelease { base, size, layout },
-    }
+    let (base, size, layout) = arguments::three_numbers(line, at)?;
+    Some(Command::RequireEventRelease { base, size, layout })
 }
 
-fn read_retire_event_backing(line: &[u8], at: usize) -> Command
-    ensures { result ≡ with_three command.RetireEventBacking (three_of (words_at line.now at)) }
+fn read_retire_event_backing(line: &[u8], at: usize) -> Option<Command>
+    ensures { result ≡ with_three (λ a b c. Some (command.RetireEventBacking a b c)) (three_of (words_at line.now at)) }
 {
-    match arguments::three_numbers(line, at) {
-        Three::Unread => Command::Unread,
-        Three::Read(base, size, layout) => Command::RetireEventBacking { base, size, layout },
-    }
+    let (base, size, layout) = arguments::three_numbers(line, at)?;
+    Some(Command::RetireEventBacking { base, size, layout })
 }
 
 // Behind the key: `none`, or the owner.
-fn read_owner(line: &[u8], at: usize, key: u64) -> Command
+#[tactic(auto, unfolding(crate::specs::Scheduler::owned_by, script_lex::specs::Arguments::with_one))]
+fn read_owner(line: &[u8], at: usize, key: u64) -> Option<Command>
     ensures { result ≡ owned_by key (words_at line.now at) }
 {
     if lex::is_word(line, at, b"none") {
@@ -186,26 +146,24 @@ fn read_owner(line: &[u8], at: usize, key: u64) -> Command
             },
         );
     }
-    match arguments::one_number(line, at, u64::MAX) {
-        Number::Unread => Command::Unread,
-        Number::Read(owner) => Command::AdoptMutex {
-            key,
-            owned: true,
-            owner,
-        },
-    }
+    let owner = arguments::one_number(line, at, u64::MAX)?;
+    Some(Command::AdoptMutex {
+        key,
+        owned: true,
+        owner,
+    })
 }
 
-fn read_adopt_mutex(line: &[u8], at: usize) -> Command
+#[tactic(auto, unfolding(crate::specs::Scheduler::adopt_line, script_lex::specs::Arguments::with_one))]
+fn read_adopt_mutex(line: &[u8], at: usize) -> Option<Command>
     ensures { result ≡ adopt_line (words_at line.now at) }
 {
-    let Number::Read(key) = lex::number_at(line, at, u64::MAX) else {
-        return Command::Unread;
-    };
+    let key = lex::number_at(line, at, u64::MAX)?;
     read_owner(line, lex::behind(line, at), key)
 }
 
-fn read_threads(line: &[u8], at: usize) -> Command
+#[tactic(auto, unfolding(crate::specs::Scheduler::thread_line))]
+fn read_threads(line: &[u8], at: usize) -> Option<Command>
     ensures { result ≡ thread_line (words_at line.now at) }
 {
     let rest = lex::behind(line, at);
@@ -230,7 +188,8 @@ fn read_threads(line: &[u8], at: usize) -> Command
     timer_lines::read_timers(line, at)
 }
 
-fn read_events(line: &[u8], at: usize) -> Command
+#[tactic(auto, unfolding(crate::specs::Scheduler::events_line))]
+fn read_events(line: &[u8], at: usize) -> Option<Command>
     ensures { result ≡ events_line (words_at line.now at) }
 {
     let rest = lex::behind(line, at);
@@ -246,7 +205,8 @@ fn read_events(line: &[u8], at: usize) -> Command
     read_threads(line, at)
 }
 
-fn read_mutexes(line: &[u8], at: usize) -> Command
+#[tactic(auto, unfolding(crate::specs::Scheduler::mutex_line))]
+fn read_mutexes(line: &[u8], at: usize) -> Option<Command>
     ensures { result ≡ mutex_line (words_at line.now at) }
 {
     let rest = lex::behind(line, at);
@@ -268,7 +228,8 @@ fn read_mutexes(line: &[u8], at: usize) -> Command
     read_events(line, at)
 }
 
-pub fn read_short(line: &[u8], at: usize) -> Command
+#[tactic(auto, unfolding(crate::specs::Scheduler::short_line))]
+pub fn read_short(line: &[u8], at: usize) -> Option<Command>
     ensures { result ≡ short_line (words_at line.now at) }
 {
     let rest = lex::behind(line, at);

@@ -5,36 +5,30 @@ ghost use Rattle.script.specs.Wait.{kind_of, item_of, paired, pairs_of, taken, w
 
 use script_lex::command::Command;
 use script_lex::lex;
-use script_lex::lex::Number;
-
-// How many numbers the pairs are.
-#[derive(Clone, Copy)]
-pub enum Pairs {
-    Unread,
-    Count(usize),
-}
 
 // The kind of an object that the first word names.
-fn kind_at(line: &[u8], at: usize) -> Number
+#[tactic(auto, unfolding(crate::specs::Wait::kind_of))]
+fn kind_at(line: &[u8], at: usize) -> Option<u64>
     ensures { result ≡ kind_of (first (words_at line.now at)) }
 {
     if lex::is_word(line, at, b"mutex") {
-        return Number::Read(0);
+        return Some(0);
     }
     if lex::is_word(line, at, b"event") {
-        return Number::Read(1);
+        return Some(1);
     }
     if lex::is_word(line, at, b"timer") {
-        return Number::Read(2);
+        return Some(2);
     }
     if lex::is_word(line, at, b"thread") {
-        return Number::Read(3);
+        return Some(3);
     }
-    Number::Unread
+    None
 }
 
 // Number `i` of the pairs: a kind where `i` is even, else a key.
-fn item_at(line: &[u8], at: usize, i: usize) -> Number
+#[tactic(auto, unfolding(crate::specs::Wait::item_of))]
+fn item_at(line: &[u8], at: usize, i: usize) -> Option<u64>
     ensures { result ≡ item_of i (first (words_at line.now at)) }
 {
     if i % 2 == 0 {
@@ -43,28 +37,25 @@ fn item_at(line: &[u8], at: usize, i: usize) -> Number
     lex::number_at(line, at, u64::MAX)
 }
 
-fn read_pairs(line: &[u8], from: usize, list: &mut [u64]) -> Pairs
+// How many numbers the pairs are.
+fn read_pairs(line: &[u8], from: usize, list: &mut [u64]) -> Option<usize>
     ensures { paired result list.new ≡ pairs_of (words_at line.now from) 0 list.old }
 {
     let mut at = from;
-    let mut i: usize = 0;
-    while i < list.len() {
+    for i in 0..list.len() {
         if lex::is_end(line, at) {
-            return Pairs::Count(i);
+            return Some(i);
         }
-        let Number::Read(n) = item_at(line, at, i) else {
-            return Pairs::Unread;
-        };
-        list[i] = n;
+        list[i] = item_at(line, at, i)?;
         at = lex::behind(line, at);
-        i += 1;
     }
     if lex::is_end(line, at) {
-        return Pairs::Count(i);
+        return Some(list.len());
     }
-    Pairs::Unread
+    None
 }
 
+#[tactic(auto, unfolding(crate::specs::Wait::wait_from, crate::specs::Wait::with_irql, crate::specs::Wait::wait_command))]
 fn read_irql(
     line: &[u8],
     at: usize,
@@ -72,39 +63,35 @@ fn read_irql(
     timed: bool,
     deadline: u64,
     list: &mut [u64],
-) -> Command
+) -> Option<Command>
     ensures { taken result list.new ≡ wait_from all timed deadline (words_at line.now at) list.old }
 {
-    let Number::Read(irql) = lex::number_at(line, at, 255) else {
-        return Command::Unread;
-    };
+    let irql = lex::number_at(line, at, 255)?;
     let rest = lex::behind(line, at);
-    let Pairs::Count(count) = read_pairs(line, rest, list) else {
-        return Command::Unread;
-    };
-    Command::Wait {
+    let count = read_pairs(line, rest, list)?;
+    Some(Command::Wait {
         all,
         timed,
         deadline,
         irql: irql as u8,
         count,
-    }
+    })
 }
 
-fn read_deadline(line: &[u8], at: usize, all: bool, list: &mut [u64]) -> Command
+#[tactic(auto, unfolding(crate::specs::Wait::wait_until, crate::specs::Wait::with_deadline))]
+fn read_deadline(line: &[u8], at: usize, all: bool, list: &mut [u64]) -> Option<Command>
     ensures { taken result list.new ≡ wait_until all (words_at line.now at) list.old }
 {
     let rest = lex::behind(line, at);
     if lex::is_word(line, at, b"never") {
         return read_irql(line, rest, all, false, 0, list);
     }
-    let Number::Read(deadline) = lex::number_at(line, at, u64::MAX) else {
-        return Command::Unread;
-    };
+    let deadline = lex::number_at(line, at, u64::MAX)?;
     read_irql(line, rest, all, true, deadline, list)
 }
 
-pub fn read_wait(line: &[u8], at: usize, list: &mut [u64]) -> Command
+#[tactic(auto, unfolding(crate::specs::Wait::wait_line))]
+pub fn read_wait(line: &[u8], at: usize, list: &mut [u64]) -> Option<Command>
     ensures { taken result list.new ≡ wait_line (words_at line.now at) list.old }
 {
     let rest = lex::behind(line, at);
@@ -114,5 +101,5 @@ pub fn read_wait(line: &[u8], at: usize, list: &mut [u64]) -> Command
     if lex::is_word(line, at, b"all") {
         return read_deadline(line, rest, true, list);
     }
-    Command::Unread
+    None
 }

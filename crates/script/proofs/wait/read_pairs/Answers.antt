@@ -1,25 +1,31 @@
-use lib.ListN.{length-set}
-use mathlib.Core.Path.{refl, sym, ◌∙◌}
+use lib.ListN.{length, length-set}
+use mathlib.Core.Path.{◌≡◌, refl, sym, ◌∙◌}
+use native.Mathlib.Omega.{arith}
+use Prim.Native.Nat.{◌<◌, ◌≤◌}
 use Rattle.script_lex.specs.Words.{words_at}
 use Rattle.script.proofs.WaitLaws.{pairs_end, pairs-full, pairs-stop, pairs-more}
 use borrow.Author.Rules.{rules}
 use Rattle.script.proofs.wait.read_pairs.Goals as goal
 
 pub loop-i-init : goal.loop-i-init
-loop-i-init c = (search rules, search rules, refl)
+loop-i-init c = (refl, refl)
 
 pub returns-then-is_end : goal.returns-then-is_end
-returns-then-is_end c = sym (pairs_end (words_at c.args.line.now c.loop-i.at) c.loop-i.i c.loop-i.list (sym c.is_end.ensures ∙ c.if-is_end.true)) ∙ c.loop-i.invariant.2
+returns-then-is_end c = sym (pairs_end (words_at c.args.line.now c.loop-i.at) c.loop-i.i c.loop-i.list (sym c.is_end.ensures ∙ c.if-is_end.true)) ∙ c.loop-i.invariant.1
 
-pub returns-in_default : goal.returns-in_default
-returns-in_default c = sym (pairs-stop (words_at c.args.line.now c.loop-i.at) c.loop-i.i c.loop-i.list (sym c.is_end.ensures ∙ c.if-is_end.false) c.loop-i-test.true (sym c.item_at.ensures ∙ c.in_default.is)) ∙ c.loop-i.invariant.2
+pub returns-in_err-list : goal.returns-in_err-list
+returns-in_err-list c = let h : c.loop-i.i < length c.loop-i.list = omega arith in
+    simp c.from_residual.ensures (sym (pairs-stop (words_at c.args.line.now c.loop-i.at) c.loop-i.i c.loop-i.list (sym c.is_end.ensures ∙ c.if-is_end.false) h (sym c.item_at.ensures ∙ c.in_err-list.was)) ∙ c.loop-i.invariant.1)
 
 pub loop-i-preserved : goal.loop-i-preserved
-loop-i-preserved c = let e = pairs-more (words_at c.args.line.now c.loop-i.at) c.loop-i.i c.loop-i.list _ (sym c.is_end.ensures ∙ c.if-is_end.false) c.loop-i-test.true (sym c.item_at.ensures ∙ c.in-Read.is) in
-    (simp length-set (search rules), simp length-set (search rules), cc (e, c.behind-at.ensures, c.loop-i.invariant.2))
+loop-i-preserved c = let h : c.loop-i.i < length c.loop-i.list = omega arith in
+    let e = pairs-more (words_at c.args.line.now c.loop-i.at) c.loop-i.i c.loop-i.list _ (sym c.is_end.ensures ∙ c.if-is_end.false) h (sym c.item_at.ensures ∙ c.in_ok-list.was) in
+    (simp length-set (search rules), cc (e, c.behind-at.ensures, c.loop-i.invariant.1))
 
 pub returns-then-is_end-2 : goal.returns-then-is_end-2
-returns-then-is_end-2 c = sym (pairs_end (words_at c.args.line.now c.loop-i.at) c.loop-i.i c.loop-i.list (sym c.is_end-2.ensures ∙ c.if-is_end-2.true)) ∙ c.loop-i.invariant.2
+returns-then-is_end-2 c = let e : length c.loop-i.list ≡ c.loop-i.i = omega arith in
+    rw e (sym (pairs_end (words_at c.args.line.now c.loop-i.at) c.loop-i.i c.loop-i.list (sym c.is_end-2.ensures ∙ c.if-is_end-2.true)) ∙ c.loop-i.invariant.1)
 
 pub returns : goal.returns
-returns c = sym (pairs-full (words_at c.args.line.now c.loop-i.at) c.loop-i.i c.loop-i.list (sym c.is_end-2.ensures ∙ c.if-is_end-2.false) c.loop-i-test.false) ∙ c.loop-i.invariant.2
+returns c = let h : length c.loop-i.list ≤ c.loop-i.i = omega arith in
+    sym (pairs-full (words_at c.args.line.now c.loop-i.at) c.loop-i.i c.loop-i.list (sym c.is_end-2.ensures ∙ c.if-is_end-2.false) h) ∙ c.loop-i.invariant.1

@@ -1,12 +1,8 @@
 use lib.ListN.{length}
 use mathlib.Core.Path.{◌≡◌}
-use Prim.Native.Nat.{◌-◌, ◌≤◌}
 use Rattle.script_lex.specs.Words.{words_at}
 use Rattle.script.specs.Wait.{pairs_of}
 use Rattle.script.proofs.wait.read_pairs.Given as goal
 
 abbrev pub invariant-loop-i : goal.invariant-loop-i
-invariant-loop-i l = (l.i ≤ length l.list) × (length l.list ≡ length l.initial.list) × (pairs_of (words_at l.line l.at) l.i l.list ≡ pairs_of (words_at l.line l.from) 0 l.initial.list)
-
-abbrev pub decreases-loop-i : goal.decreases-loop-i
-decreases-loop-i l = length l.initial.list - l.i
+invariant-loop-i l = (length l.list ≡ length l.initial.list) × (pairs_of (words_at l.line l.at) l.i l.list ≡ pairs_of (words_at l.line l.from) 0 l.initial.list)
