@@ -3,14 +3,9 @@ use mathlib.Core.Path.{◌≡◌, refl, ◌∙◌}
 use mathlib.Core.Bool.{Bool, cond, true, false, ◌&&◌}
 use mathlib.Core.List.{List, [], ◌∷◌}
 use Prim.Native.Nat.{ℕ, ◌+◌, ◌-◌}
-use Rattle.script_lex.specs.declared.lex.Number.{Number}
-use Rattle.script_lex.specs.declared.lex.Number.TheVariants as number
-use Rattle.script_lex.specs.declared.lex.Signed.{Signed}
-use Rattle.script_lex.specs.declared.lex.Signed.TheVariants as signed
-use Rattle.script_lex.specs.declared.arguments.Flag.{Flag}
-use Rattle.script_lex.specs.declared.arguments.Flag.TheVariants as flag
-use Rattle.script_lex.specs.declared.location.Arch.{Arch}
-use Rattle.script_lex.specs.declared.location.Arch.TheVariants as arch
+use lib.IntN.{ℤ}
+use Rattle.std.specs.Prelude.{Option, Some, None}
+use Rattle.arch.specs.declared.Architecture.{Architecture}
 use Rattle.script_lex.specs.Text.{bytes_of}
 use Rattle.script_lex.specs.Names as name
 use Rattle.script_lex.specs.Words.{first, others, none, same}
@@ -20,21 +15,21 @@ use Rattle.script_lex.specs.Location.{architecture_of}
 use Rattle.script_lex.proofs.Cases.{either}
 use Rattle.script.specs.Wait.{kind_of, is_read}
 use Rattle.reasons.specs.declared.Reason.{Reason}
-use Rattle.reasons.specs.Reasons.{is_fine, continued, listed, is_numeral, unread_number, of_number, of_signed, number_reason, signed_reason, or_number, list_reason, choice_reason, word_reason, kind_at, next_of, end_reason, reason_from}
+use Rattle.reasons.specs.Reasons.{is_fine, continued, listed, unread_number, of_number, of_signed, number_reason, signed_reason, or_number, list_reason, choice_reason, word_reason, kind_at, next_of, end_reason, reason_from}
 
 -- ---- what was read
 
-unfoldable pub signed_read : Signed → Bool
-signed_read signed.Unread = false
-signed_read (signed.Read n) = true
+unfoldable pub signed_read : Option ℤ → Bool
+signed_read None = false
+signed_read (Some n) = true
 
-unfoldable pub flag_read : Flag → Bool
-flag_read flag.Unread = false
-flag_read (flag.Read f) = true
+unfoldable pub flag_read : Option Bool → Bool
+flag_read None = false
+flag_read (Some f) = true
 
-unfoldable pub arch_read : Arch → Bool
-arch_read arch.Unread = false
-arch_read (arch.Read a) = true
+unfoldable pub arch_read : Option Architecture → Bool
+arch_read None = false
+arch_read (Some a) = true
 
 -- a word, or a number of 64 bits
 abbrev pub or_read : List ℕ → List ℕ → Bool
@@ -42,31 +37,27 @@ or_read n w = cond (same w n) true (is_read (number_of most w))
 
 -- ---- one word
 
-fine-and : (a b : Reason) → is_fine (continued a b) ≡ (is_fine a && is_fine b)
+fine-and : (a b : Option Reason) → is_fine (continued a b) ≡ (is_fine a && is_fine b)
 unfolding continued
 fine-and a b = either (is_fine a) (λ e. simp e) (λ e. simp e)
 
-unread-number : (p k : ℕ) (w : List ℕ) → is_fine (unread_number p k w) ≡ false
-unfolding unread_number is_fine
-unread-number p k w = either (is_numeral w) (λ e. simp e) (λ e. simp e)
-
-of_number_lem : (n : Number) (r : Reason) → is_fine r ≡ false → is_fine (of_number n r) ≡ is_read n
+of_number_lem : (n : Option ℕ) (r : Reason) → is_fine (of_number n r) ≡ is_read n
 unfolding of_number is_fine is_read
-of_number_lem number.Unread r e = e
-of_number_lem (number.Read n) r e = refl
+of_number_lem None r = refl
+of_number_lem (Some n) r = refl
 
-of-signed : (n : Signed) (r : Reason) → is_fine r ≡ false → is_fine (of_signed n r) ≡ signed_read n
+of-signed : (n : Option ℤ) (r : Reason) → is_fine (of_signed n r) ≡ signed_read n
 unfolding of_signed is_fine signed_read
-of-signed signed.Unread r e = e
-of-signed (signed.Read n) r e = refl
+of-signed None r = refl
+of-signed (Some n) r = refl
 
 number_fits : (limit p k : ℕ) (w : List ℕ) → is_fine (number_reason limit p k w) ≡ is_read (number_of limit w)
 unfolding number_reason
-number_fits limit p k w = of_number_lem (number_of limit w) (unread_number p k w) (unread-number p k w)
+number_fits limit p k w = of_number_lem (number_of limit w) (unread_number p k w)
 
 signed-fits : (p k : ℕ) (w : List ℕ) → is_fine (signed_reason p k w) ≡ signed_read (signed_of w)
 unfolding signed_reason
-signed-fits p k w = of-signed (signed_of w) (unread_number p k w) (unread-number p k w)
+signed-fits p k w = of-signed (signed_of w) (unread_number p k w)
 
 or-fits : (n : List ℕ) (p k : ℕ) (w : List ℕ) → is_fine (or_number n p k w) ≡ or_read n w
 unfolding or_number is_fine

@@ -6,24 +6,11 @@ use Prim.Native.Nat.{ℕ, ◌+◌, ◌%◌, ◌≤◌, ◌<◌}
 use native.Mathlib.Omega.{arith}
 use borrow.Author.Tests.{lt-ltb, eq-eqb, ne_eqb}
 use lib.ListN.{length, set, length-set}
+use lib.IntN.{ℤ}
+use Rattle.std.specs.Prelude.{Option, Some, None}
 use Rattle.arch.specs.declared.Architecture.{Architecture}
 use Rattle.images.specs.declared.TimerBacking.{TimerBacking}
-use Rattle.script_lex.specs.declared.lex.Number.{Number}
-use Rattle.script_lex.specs.declared.lex.Number.TheVariants as number
-use Rattle.script_lex.specs.declared.lex.Signed.{Signed}
-use Rattle.script_lex.specs.declared.lex.Signed.TheVariants as signed
-use Rattle.script_lex.specs.declared.arguments.Flag.{Flag}
-use Rattle.script_lex.specs.declared.arguments.Flag.TheVariants as flag
-use Rattle.script_lex.specs.declared.arguments.Two.{Two}
-use Rattle.script_lex.specs.declared.arguments.Two.TheVariants as two
-use Rattle.script_lex.specs.declared.arguments.Three.{Three}
-use Rattle.script_lex.specs.declared.arguments.Three.TheVariants as three
-use Rattle.script_lex.specs.declared.location.Arch.{Arch}
-use Rattle.script_lex.specs.declared.location.Arch.TheVariants as arch
-use Rattle.script_lex.specs.declared.location.Backing.{Backing}
-use Rattle.script_lex.specs.declared.location.Backing.TheVariants as backing
 use Rattle.script_lex.specs.declared.location.Location.{Location}
-use Rattle.script_lex.specs.declared.location.Location.TheVariants as location
 use Rattle.script_lex.specs.declared.command.Command.{Command}
 use Rattle.script_lex.specs.declared.command.Command.TheVariants as command
 use Rattle.script_lex.specs.Text.{bytes_of}
@@ -37,15 +24,13 @@ use Rattle.script_timers.specs.Clock.{new_of, new_behind, new_line}
 use Rattle.script_timers.specs.Dpc.{routine_behind, initialize_dpc_line}
 use Rattle.script_timers.specs.Timers.{manual_of, manual_behind, initialize_timer_line, set_of, set_behind, set_timer_line}
 use Rattle.script.specs.Scheduler.{with_flags, flagged, event_line, owned_by, adopt_line}
-use Rattle.script.specs.declared.wait.Pairs.{Pairs}
-use Rattle.script.specs.declared.wait.Pairs.TheVariants as pairs
 use Rattle.script.specs.Wait.{kind_of, item_of, is_read, told, pairs_of, wait_command, with_irql, wait_from, with_deadline, wait_until, wait_line}
 use Rattle.reasons.specs.Read.{reads}
 use Rattle.reasons.specs.Reasons.{is_fine, listed, kind_at, end_reason, reason_from, form_reason}
 use Rattle.reasons.proofs.FitLaws.{signed_read, flag_read, arch_read, or_read, ends, Numeric, bits64, bits8, bits32, number-then, signed-then, flag-then, arch-then, owner-then, time-then, set_then, backing-then, kind-then, key-then}
 
 -- the command is read exactly if the words fit the form
-pub data Agree (c : Command) (form : List ℕ) (p : ℕ) (ws : List (List ℕ)) : Type 0 where
+pub data Agree (c : Option Command) (form : List ℕ) (p : ℕ) (ws : List (List ℕ)) : Type 0 where
   agree : reads c ≡ is_fine (form_reason form p ws) → Agree c form p ws
 
 and-true : (x : Bool) → (x && true) ≡ x
@@ -62,81 +47,81 @@ and_assoc false y z = refl
 
 -- ---- the readers
 
-bare-reads : (c : Command) → reads c ≡ true → (ws : List (List ℕ)) → reads (bare_line c ws) ≡ none ws
+bare-reads : (c : Command) (ws : List (List ℕ)) → reads (bare_line c ws) ≡ none ws
 unfolding bare_line reads
-bare-reads c h ws = either (none ws) (λ e. simp e h) (λ e. simp e)
+bare-reads c ws = either (none ws) (λ e. simp e) (λ e. simp e)
 
-with-one : (f : ℕ → Command) (b : Bool) → ((n : ℕ) → reads (f n) ≡ b) → (n : Number) → reads (with_one f n) ≡ (is_read n && b)
+with-one : (f : ℕ → Option Command) (b : Bool) → ((n : ℕ) → reads (f n) ≡ b) → (n : Option ℕ) → reads (with_one f n) ≡ (is_read n && b)
 unfolding with_one is_read reads
-with-one f b h number.Unread = refl
-with-one f b h (number.Read n) = h n
+with-one f b h None = refl
+with-one f b h (Some n) = h n
 
 one-read : (limit : ℕ) (ws : List (List ℕ)) → is_read (one_of limit ws) ≡ (is_read (number_of limit (first ws)) && none (others ws))
 unfolding one_of is_read
 one-read limit ws = either (none (others ws)) (λ e. simp e (sym (and-true (is_read (number_of limit (first ws)))))) (λ e. simp e (sym (and-false (is_read (number_of limit (first ws))))))
 
-one-reads : (f : ℕ → Command) → ((n : ℕ) → reads (f n) ≡ true) → (limit : ℕ) (ws : List (List ℕ)) → reads (with_one f (one_of limit ws)) ≡ (is_read (number_of limit (first ws)) && none (others ws))
+one-reads : (f : ℕ → Option Command) → ((n : ℕ) → reads (f n) ≡ true) → (limit : ℕ) (ws : List (List ℕ)) → reads (with_one f (one_of limit ws)) ≡ (is_read (number_of limit (first ws)) && none (others ws))
 one-reads f h limit ws = with-one f true h (one_of limit ws) ∙ and-true (is_read (one_of limit ws)) ∙ one-read limit ws
 
-two_read : Two → Bool
-two_read two.Unread = false
-two_read (two.Read a b) = true
+two_read : Option (ℕ × ℕ) → Bool
+two_read None = false
+two_read (Some (a, b)) = true
 
-three_read : Three → Bool
-three_read three.Unread = false
-three_read (three.Read a b d) = true
+three_read : Option (ℕ × ℕ × ℕ) → Bool
+three_read None = false
+three_read (Some (a, b, d)) = true
 
-join-two : (m n : Number) → two_read (join_two m n) ≡ (is_read m && is_read n)
+join-two : (m n : Option ℕ) → two_read (join_two m n) ≡ (is_read m && is_read n)
 unfolding join_two is_read two_read
-join-two (number.Read a) (number.Read b) = refl
-join-two (number.Read a) number.Unread = refl
-join-two number.Unread n = refl
+join-two (Some a) (Some b) = refl
+join-two (Some a) None = refl
+join-two None n = refl
 
 two-read : (a b : ℕ) (ws : List (List ℕ)) → two_read (two_of a b ws) ≡ (is_read (number_of a (first ws)) && (is_read (number_of b (first (others ws))) && none (others (others ws))))
 unfolding two_of
 two-read a b ws = join-two (number_of a (first ws)) (one_of b (others ws)) ∙ ap (λ (x : Bool). is_read (number_of a (first ws)) && x) (one-read b (others ws))
 
-two-reads : (f : ℕ → ℕ → Command) → ((a b : ℕ) → reads (f a b) ≡ true) → (t : Two) → reads (with_two f t) ≡ two_read t
+two-reads : (f : ℕ → ℕ → Option Command) → ((a b : ℕ) → reads (f a b) ≡ true) → (t : Option (ℕ × ℕ)) → reads (with_two f t) ≡ two_read t
 unfolding with_two reads two_read
-two-reads f h two.Unread = refl
-two-reads f h (two.Read a b) = h a b
+two-reads f h None = refl
+two-reads f h (Some (a, b)) = h a b
 
-join-three : (m : Number) (t : Two) → three_read (join_three m t) ≡ (is_read m && two_read t)
+join-three : (m : Option ℕ) (t : Option (ℕ × ℕ)) → three_read (join_three m t) ≡ (is_read m && two_read t)
 unfolding join_three is_read two_read three_read
-join-three (number.Read a) (two.Read b d) = refl
-join-three (number.Read a) two.Unread = refl
-join-three number.Unread t = refl
+join-three (Some a) (Some (b, d)) = refl
+join-three (Some a) None = refl
+join-three None t = refl
 
 three-read : (ws : List (List ℕ)) → three_read (three_of ws)
     ≡ (is_read (number_of most (first ws)) && (is_read (number_of most (first (others ws))) && (is_read (number_of most (first (others (others ws)))) && none (others (others (others ws))))))
 unfolding three_of
 three-read ws = join-three (number_of most (first ws)) (two_of most most (others ws)) ∙ ap (λ (x : Bool). is_read (number_of most (first ws)) && x) (two-read most most (others ws))
 
-three-reads : (f : ℕ → ℕ → ℕ → Command) → ((a b d : ℕ) → reads (f a b d) ≡ true) → (t : Three) → reads (with_three f t) ≡ three_read t
+three-reads : (f : ℕ → ℕ → ℕ → Option Command) → ((a b d : ℕ) → reads (f a b d) ≡ true) → (t : Option (ℕ × ℕ × ℕ)) → reads (with_three f t) ≡ three_read t
 unfolding with_three reads three_read
-three-reads f h three.Unread = refl
-three-reads f h (three.Read a b d) = h a b d
+three-reads f h None = refl
+three-reads f h (Some (a, b, d)) = h a b d
 
 -- ---- lines of numbers
 
 module _ (p : ℕ) (ws : List (List ℕ)) where
-  pub bare-line : (c : Command) → reads c ≡ true → Agree (bare_line c ws) (bytes_of ".") p ws
+  pub bare-line : (c : Command) → Agree (bare_line c ws) (bytes_of ".") p ws
   unfolding form_reason
-  bare-line c h = agree (bare-reads c h ws ∙ sym (ends (bytes_of ".") 0 (p + 1) ws refl))
+  bare-line c = agree (bare-reads c ws ∙ sym (ends (bytes_of ".") 0 (p + 1) ws refl))
 
-  pub one_line : {k limit : ℕ} → Numeric k limit → (f : ℕ → Command) → ((n : ℕ) → reads (f n) ≡ true) → Agree (with_one f (one_of limit ws)) (k ∷ []) p ws
+  pub one_line : {k limit : ℕ} → Numeric k limit → (f : ℕ → Option Command) → ((n : ℕ) → reads (f n) ≡ true) → Agree (with_one f (one_of limit ws)) (k ∷ []) p ws
   unfolding form_reason
   one_line {k} {limit} q f h =
       agree (simp (number-then (k ∷ []) 0 (p + 1) ws q refl, ends (k ∷ []) 1 (p + 1 + 1) (others ws) refl) (one-reads f h limit ws))
 
-  pub two-line : {j k a b : ℕ} → Numeric j a → Numeric k b → (f : ℕ → ℕ → Command) → ((m n : ℕ) → reads (f m n) ≡ true) → Agree (with_two f (two_of a b ws)) (j ∷ k ∷ []) p ws
+  pub two-line : {j k a b : ℕ} → Numeric j a → Numeric k b → (f : ℕ → ℕ → Option Command) → ((m n : ℕ) → reads (f m n) ≡ true) → Agree (with_two f (two_of a b ws)) (j ∷ k ∷ []) p ws
   unfolding form_reason
   two-line {j} {k} {a} {b} q r f h =
       agree
       (simp (number-then (j ∷ k ∷ []) 0 (p + 1) ws q refl, number-then (j ∷ k ∷ []) 1 (p + 1 + 1) (others ws) r refl, ends (j ∷ k ∷ []) 2 (p + 1 + 1 + 1) (others (others ws)) refl)
       (two-reads f h (two_of a b ws) ∙ two-read a b ws))
 
-  pub three-line : (f : ℕ → ℕ → ℕ → Command) → ((a b d : ℕ) → reads (f a b d) ≡ true) → Agree (with_three f (three_of ws)) (bytes_of "nnn") p ws
+  pub three-line : (f : ℕ → ℕ → ℕ → Option Command) → ((a b d : ℕ) → reads (f a b d) ≡ true) → Agree (with_three f (three_of ws)) (bytes_of "nnn") p ws
   unfolding form_reason
   three-line f h =
       agree
@@ -150,17 +135,17 @@ module _ (p : ℕ) (ws : List (List ℕ)) where
 
 -- ---- an event and a mutex's owner
 
-flags_of : (key : ℕ) (a b : Flag) (ws : List (List ℕ)) → reads (with_flags key a b ws) ≡ (flag_read a && (flag_read b && none ws))
+flags_of : (key : ℕ) (a b : Option Bool) (ws : List (List ℕ)) → reads (with_flags key a b ws) ≡ (flag_read a && (flag_read b && none ws))
 unfolding with_flags reads flag_read
-flags_of key (flag.Read m) (flag.Read s) ws = bare-reads (command.Event key m s) refl ws
-flags_of key (flag.Read m) flag.Unread ws = refl
-flags_of key flag.Unread b ws = refl
+flags_of key (Some m) (Some s) ws = bare-reads (command.Event key m s) ws
+flags_of key (Some m) None ws = refl
+flags_of key None b ws = refl
 
 owned : (key : ℕ) (ws : List (List ℕ)) → reads (owned_by key ws) ≡ (or_read name.none (first ws) && none (others ws))
 unfolding owned_by reads
 owned key ws =
-    either (same (first ws) name.none) (λ e. simp e (bare-reads (command.AdoptMutex key false 0) refl (others ws)))
-    (λ e. simp e (one-reads (λ (owner : ℕ). command.AdoptMutex key true owner) (λ n. refl) most ws))
+    either (same (first ws) name.none) (λ e. simp e (bare-reads (command.AdoptMutex key false 0) (others ws)))
+    (λ e. simp e (one-reads (λ (owner : ℕ). Some (command.AdoptMutex key true owner)) (λ n. refl) most ws))
 
 module _ (p : ℕ) (ws : List (List ℕ)) where
   pub event-line : Agree (event_line ws) (bytes_of "nff") p ws
@@ -185,18 +170,18 @@ module _ (p : ℕ) (ws : List (List ℕ)) where
 
 -- ---- a timer that is set, and a new clock
 
-set-of : (address due : ℕ) (a : Flag) (b : Signed) (n : Number) → reads (set_of address due a b n) ≡ (flag_read a && (signed_read b && is_read n))
+set-of : (address due : ℕ) (a : Option Bool) (b : Option ℤ) (n : Option ℕ) → reads (set_of address due a b n) ≡ (flag_read a && (signed_read b && is_read n))
 unfolding set_of reads is_read flag_read signed_read
-set-of address due (flag.Read a) (signed.Read b) (number.Read n) = refl
-set-of address due (flag.Read a) (signed.Read b) number.Unread = refl
-set-of address due (flag.Read a) signed.Unread n = refl
-set-of address due flag.Unread b n = refl
+set-of address due (Some a) (Some b) (Some n) = refl
+set-of address due (Some a) (Some b) None = refl
+set-of address due (Some a) None n = refl
+set-of address due None b n = refl
 
-new-of : (utc uptime : ℕ) (b : Signed) (n : Number) → reads (new_of utc uptime b n) ≡ (signed_read b && is_read n)
+new-of : (utc uptime : ℕ) (b : Option ℤ) (n : Option ℕ) → reads (new_of utc uptime b n) ≡ (signed_read b && is_read n)
 unfolding new_of reads is_read signed_read
-new-of utc uptime (signed.Read b) (number.Read n) = refl
-new-of utc uptime (signed.Read b) number.Unread = refl
-new-of utc uptime signed.Unread n = refl
+new-of utc uptime (Some b) (Some n) = refl
+new-of utc uptime (Some b) None = refl
+new-of utc uptime None n = refl
 
 set-behind : (address due : ℕ) (ws : List (List ℕ)) → reads (set_behind address due ws)
     ≡ (flag_read (flag_of (first ws)) && (signed_read (signed_of (first (others ws))) && (is_read (number_of most (first (others (others ws)))) && none (others (others (others ws))))))
@@ -209,7 +194,7 @@ unfolding new_behind
 new-behind utc uptime ws = simp (new-of utc uptime (signed_of (first ws)) (one_of 4294967295 (others ws)), one-read 4294967295 (others ws))
 
 -- two numbers, and what is read behind them
-with-both : (f : ℕ → ℕ → Command) (b : Bool) → ((m n : ℕ) → reads (f m n) ≡ b) → (m n : Number)
+with-both : (f : ℕ → ℕ → Option Command) (b : Bool) → ((m n : ℕ) → reads (f m n) ≡ b) → (m n : Option ℕ)
     → reads (with_one (λ (x : ℕ). with_one (λ (y : ℕ). f x y) n) m) ≡ (is_read m && (is_read n && b))
 with-both f b h m n = with-one (λ (x : ℕ). with_one (λ (y : ℕ). f x y) n) (is_read n && b) (λ x. with-one (λ (y : ℕ). f x y) b (λ y. h x y) n) m
 
@@ -251,39 +236,39 @@ module _ (p : ℕ) (ws : List (List ℕ)) where
 
 -- ---- locations
 
-back_read : Backing → Bool
-back_read backing.Unread = false
-back_read (backing.Read b) = true
+back_read : Option TimerBacking → Bool
+back_read None = false
+back_read (Some b) = true
 
-loc_read : Location → Bool
-loc_read location.Unread = false
-loc_read (location.Read address a b) = true
+loc_read : Option Location → Bool
+loc_read None = false
+loc_read (Some x) = true
 
-image-of : (m n : Number) → back_read (image_of m n) ≡ (is_read m && is_read n)
+image-of : (m n : Option ℕ) → back_read (image_of m n) ≡ (is_read m && is_read n)
 unfolding image_of is_read back_read
-image-of (number.Read m) (number.Read n) = refl
-image-of (number.Read m) number.Unread = refl
-image-of number.Unread n = refl
+image-of (Some m) (Some n) = refl
+image-of (Some m) None = refl
+image-of None n = refl
 
-pool-of : (l m n : Number) → back_read (pool_of l m n) ≡ (is_read l && (is_read m && is_read n))
+pool-of : (l m n : Option ℕ) → back_read (pool_of l m n) ≡ (is_read l && (is_read m && is_read n))
 unfolding pool_of is_read back_read
-pool-of (number.Read l) (number.Read m) (number.Read n) = refl
-pool-of (number.Read l) (number.Read m) number.Unread = refl
-pool-of (number.Read l) number.Unread n = refl
-pool-of number.Unread m n = refl
+pool-of (Some l) (Some m) (Some n) = refl
+pool-of (Some l) (Some m) None = refl
+pool-of (Some l) None n = refl
+pool-of None m n = refl
 
-placed-read : (n : Number) (a : Arch) (b : Backing) → loc_read (placed n a b) ≡ (is_read n && (arch_read a && back_read b))
+placed-read : (n : Option ℕ) (a : Option Architecture) (b : Option TimerBacking) → loc_read (placed n a b) ≡ (is_read n && (arch_read a && back_read b))
 unfolding placed is_read arch_read back_read loc_read
-placed-read (number.Read n) (arch.Read a) (backing.Read b) = refl
-placed-read (number.Read n) (arch.Read a) backing.Unread = refl
-placed-read (number.Read n) arch.Unread b = refl
-placed-read number.Unread a b = refl
+placed-read (Some n) (Some a) (Some b) = refl
+placed-read (Some n) (Some a) None = refl
+placed-read (Some n) None b = refl
+placed-read None a b = refl
 
-with-location : (f : ℕ → Architecture → TimerBacking → Command) (b : Bool) → ((n : ℕ) (a : Architecture) (k : TimerBacking) → reads (f n a k) ≡ b)
-    → (l : Location) → reads (with_location f l) ≡ (loc_read l && b)
+with-location : (f : ℕ → Architecture → TimerBacking → Option Command) (b : Bool) → ((n : ℕ) (a : Architecture) (k : TimerBacking) → reads (f n a k) ≡ b)
+    → (l : Option Location) → reads (with_location f l) ≡ (loc_read l && b)
 unfolding with_location reads loc_read
-with-location f b h location.Unread = refl
-with-location f b h (location.Read n a k) = h n a k
+with-location f b h None = refl
+with-location f b h (Some x) = h x.address x.architecture x.backing
 
 -- a form that starts with a location, the rest of it from place 6 on
 module _ (form : List ℕ) (rest : List (List ℕ) → Bool) (law : (p : ℕ) (ws : List (List ℕ)) → is_fine (reason_from form 6 p ws) ≡ rest ws)
@@ -316,7 +301,7 @@ module _ (form : List ℕ) (rest : List (List ℕ) → Bool) (law : (p : ℕ) (w
       ))
       (λ d. simp (backing-then form 2 p ws at2, e, d)))
 
-  located : (f : ℕ → Architecture → TimerBacking → Command) (p : ℕ) (ws : List (List ℕ))
+  located : (f : ℕ → Architecture → TimerBacking → Option Command) (p : ℕ) (ws : List (List ℕ))
       → ((n : ℕ) (a : Architecture) (k : TimerBacking) → reads (f n a k) ≡ rest (behind_location ws)) → reads (with_location f (location_of ws)) ≡ is_fine (reason_from form 0 p ws)
   unfolding location_of behind_location
   located f p ws h =
@@ -329,10 +314,10 @@ module _ (form : List ℕ) (rest : List (List ℕ) → Bool) (law : (p : ℕ) (w
         and_assoc,
       )
 
-manual-of : (address : ℕ) (a : Architecture) (b : TimerBacking) (f : Flag) (ws : List (List ℕ)) → reads (manual_of address a b f ws) ≡ (flag_read f && none ws)
+manual-of : (address : ℕ) (a : Architecture) (b : TimerBacking) (f : Option Bool) (ws : List (List ℕ)) → reads (manual_of address a b f ws) ≡ (flag_read f && none ws)
 unfolding manual_of reads flag_read
-manual-of address a b (flag.Read m) ws = bare-reads (command.InitializeTimer address a b m) refl ws
-manual-of address a b flag.Unread ws = refl
+manual-of address a b (Some m) ws = bare-reads (command.InitializeTimer address a b m) ws
+manual-of address a b None ws = refl
 
 module _ (p : ℕ) (ws : List (List ℕ)) where
   pub initialize-timer-line : Agree (initialize_timer_line ws) (bytes_of "namnnnf") p ws
@@ -354,13 +339,13 @@ module _ (p : ℕ) (ws : List (List ℕ)) where
       (located f rest
       (λ q us. simp (number-then f 6 q us bits64 refl, number-then f 7 (q + 1) (others us) bits64 refl, ends f 8 (q + 1 + 1) (others (others us)) refl)) refl refl refl refl refl refl
       (λ address a b. routine_behind address a b (behind_location ws)) (p + 1) ws
-      (λ n a b. two-reads (command.InitializeDpc n a b) (λ x y. refl) (two_of most most (behind_location ws)) ∙ two-read most most (behind_location ws)))
+      (λ n a b. two-reads (λ x y. Some (command.InitializeDpc n a b x y)) (λ x y. refl) (two_of most most (behind_location ws)) ∙ two-read most most (behind_location ws)))
 
 -- ---- waits
 
-pairs_read : Pairs → Bool
-pairs_read pairs.Unread = false
-pairs_read (pairs.Count n) = true
+pairs_read : Option ℕ → Bool
+pairs_read None = false
+pairs_read (Some n) = true
 
 abbrev waits : List ℕ
 waits = bytes_of "stbkv"
@@ -389,25 +374,25 @@ pairs-fit false (w ∷ ws) i p l e h =
     (λ r. simp r (pairs-fit true ws (i + 1) (p + 1) (set l i (told x)) next (omega (arith, length-set l i (told x)))))
     (λ r. simp r))
 
-counted : (all timed : Bool) (deadline irql : ℕ) (n : Pairs) → reads (wait_command all timed deadline irql n) ≡ pairs_read n
+counted : (all timed : Bool) (deadline irql : ℕ) (n : Option ℕ) → reads (wait_command all timed deadline irql n) ≡ pairs_read n
 unfolding wait_command reads pairs_read
-counted all timed deadline irql pairs.Unread = refl
-counted all timed deadline irql (pairs.Count n) = refl
+counted all timed deadline irql None = refl
+counted all timed deadline irql (Some n) = refl
 
-with-irql : (all timed : Bool) (deadline : ℕ) (n : Number) (ws : List (List ℕ)) (l : List ℕ)
+with-irql : (all timed : Bool) (deadline : ℕ) (n : Option ℕ) (ws : List (List ℕ)) (l : List ℕ)
     → reads (with_irql all timed deadline n ws l).command ≡ (is_read n && pairs_read (pairs_of ws 0 l).count)
 unfolding with_irql reads is_read
-with-irql all timed deadline number.Unread ws l = refl
-with-irql all timed deadline (number.Read irql) ws l = counted all timed deadline irql (pairs_of ws 0 l).count
+with-irql all timed deadline None ws l = refl
+with-irql all timed deadline (Some irql) ws l = counted all timed deadline irql (pairs_of ws 0 l).count
 
 -- from the IRQL on
 abbrev irql_read : List (List ℕ) → List ℕ → Bool
 irql_read ws l = is_read (number_of 255 (first ws)) && pairs_read (pairs_of (others ws) 0 l).count
 
-with-deadline : (all : Bool) (n : Number) (ws : List (List ℕ)) (l : List ℕ) → reads (with_deadline all n ws l).command ≡ (is_read n && irql_read ws l)
+with-deadline : (all : Bool) (n : Option ℕ) (ws : List (List ℕ)) (l : List ℕ) → reads (with_deadline all n ws l).command ≡ (is_read n && irql_read ws l)
 unfolding with_deadline wait_from reads is_read
-with-deadline all number.Unread ws l = refl
-with-deadline all (number.Read deadline) ws l = with-irql all true deadline (number_of 255 (first ws)) (others ws) l
+with-deadline all None ws l = refl
+with-deadline all (Some deadline) ws l = with-irql all true deadline (number_of 255 (first ws)) (others ws) l
 
 until : (all : Bool) (ws : List (List ℕ)) (l : List ℕ) → reads (wait_until all ws l).command ≡ (or_read name.never (first ws) && irql_read (others ws) l)
 unfolding wait_until wait_from

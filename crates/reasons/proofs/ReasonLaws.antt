@@ -6,8 +6,8 @@ use Prim.Native.Nat.{ℕ, ◌+◌, ◌≤◌, ◌<◌}
 use native.Mathlib.Omega.{arith}
 use lib.ListN.{length, get_or, drop, length-drop}
 use lib.Seq.{drop-cons}
+use Rattle.std.specs.Prelude.{Option, Some, None}
 use Rattle.reasons.specs.declared.Reason.{Reason}
-use Rattle.reasons.specs.declared.Reason.TheVariants as reason
 use Rattle.script_lex.specs.Text.{bytes_of}
 use Rattle.script_lex.specs.Names as name
 use Rattle.script_lex.specs.Words.{blank, grown, pieces, full, words_of, first, others, none, part}
@@ -41,20 +41,10 @@ form-reason from to t p ws h k = simp (part-cons from to t h k)
 pub default : (l : List ℕ) (i d e : ℕ) → i < length l → get_or l i d ≡ get_or l i e
 default l i d e h = cc (drop-cons l i d h, drop-cons l i e h)
 
-pub not-fine : (r : Reason) → (r ≡ reason.Fine → ⊥) → is_fine r ≡ false
+pub no_reason : (r : Option Reason) → ((x : Reason) → r ≡ Some x → ⊥) → is_fine r ≡ true
 unfolding is_fine
-not-fine reason.Fine q = absurd (q refl)
-not-fine reason.TooLong q = refl
-not-fine reason.NoWord q = refl
-not-fine (reason.UnknownWord p) q = refl
-not-fine (reason.Missing p k) q = refl
-not-fine (reason.NotNumber p k) q = refl
-not-fine (reason.OutOfRange p k) q = refl
-not-fine (reason.NotListed p k) q = refl
-not-fine (reason.Extra p) q = refl
-not-fine reason.BeforeOpen q = refl
-not-fine reason.SecondOpen q = refl
-not-fine reason.BeforeClock q = refl
+no_reason None q = refl
+no_reason (Some x) q = absurd (q x refl)
 
 -- ---- how many words there are
 

@@ -1,9 +1,5 @@
 -- Why a line cannot be read. A reason's place is the number of a word, its kind a letter of a form.
-use Rattle.std.specs.Prelude.{Bool, cond, true, false, List, [], ◌∷◌, ℕ, ◌+◌, ◌-◌, eqb, ltb, length, get_or, take, drop}
-use Rattle.script_lex.specs.declared.lex.Number.{Number}
-use Rattle.script_lex.specs.declared.lex.Number.TheVariants as number
-use Rattle.script_lex.specs.declared.lex.Signed.{Signed}
-use Rattle.script_lex.specs.declared.lex.Signed.TheVariants as signed
+use Rattle.std.specs.Prelude.{Bool, cond, true, false, List, [], ◌∷◌, ℕ, ◌+◌, ◌-◌, eqb, ltb, length, get_or, take, drop, ℤ, Option, Some, None}
 use Rattle.script_lex.specs.Text.{bytes_of}
 use Rattle.script_lex.specs.Names as name
 use Rattle.script_lex.specs.Words.{words_of, first, others, none, same}
@@ -14,22 +10,12 @@ use Rattle.reasons.specs.declared.Reason.{Reason}
 use Rattle.reasons.specs.declared.Reason.TheVariants as reason
 use Rattle.reasons.specs.Grammar.{grammar, clock_grammar}
 
-unfoldable pub is_fine : Reason → Bool
-is_fine reason.Fine = true
-is_fine reason.TooLong = false
-is_fine reason.NoWord = false
-is_fine (reason.UnknownWord p) = false
-is_fine (reason.Missing p k) = false
-is_fine (reason.NotNumber p k) = false
-is_fine (reason.OutOfRange p k) = false
-is_fine (reason.NotListed p k) = false
-is_fine (reason.Extra p) = false
-is_fine reason.BeforeOpen = false
-is_fine reason.SecondOpen = false
-is_fine reason.BeforeClock = false
+unfoldable pub is_fine : Option Reason → Bool
+is_fine None = true
+is_fine (Some r) = false
 
 -- the first reason, or the second where that is fine
-unfoldable pub continued : Reason → Reason → Reason
+unfoldable pub continued : Option Reason → Option Reason → Option Reason
 continued a b = cond (is_fine a) b a
 
 -- ---- one word
@@ -50,28 +36,28 @@ is_numeral w = cond (eqb (get_or w 0 0) 45) (digits (drop 1 w)) (digits w)
 unfoldable pub unread_number : ℕ → ℕ → List ℕ → Reason
 unread_number p k w = cond (is_numeral w) (reason.OutOfRange p k) (reason.NotNumber p k)
 
-unfoldable pub of_number : Number → Reason → Reason
-of_number number.Unread r = r
-of_number (number.Read n) r = reason.Fine
+unfoldable pub of_number : Option ℕ → Reason → Option Reason
+of_number None r = Some r
+of_number (Some n) r = None
 
-unfoldable pub of_signed : Signed → Reason → Reason
-of_signed signed.Unread r = r
-of_signed (signed.Read n) r = reason.Fine
+unfoldable pub of_signed : Option ℤ → Reason → Option Reason
+of_signed None r = Some r
+of_signed (Some n) r = None
 
-unfoldable pub number_reason : ℕ → ℕ → ℕ → List ℕ → Reason
+unfoldable pub number_reason : ℕ → ℕ → ℕ → List ℕ → Option Reason
 number_reason limit p k w = of_number (number_of limit w) (unread_number p k w)
 
-unfoldable pub signed_reason : ℕ → ℕ → List ℕ → Reason
+unfoldable pub signed_reason : ℕ → ℕ → List ℕ → Option Reason
 signed_reason p k w = of_signed (signed_of w) (unread_number p k w)
 
-unfoldable pub or_number : List ℕ → ℕ → ℕ → List ℕ → Reason
-or_number n p k w = cond (same w n) reason.Fine (number_reason most p k w)
+unfoldable pub or_number : List ℕ → ℕ → ℕ → List ℕ → Option Reason
+or_number n p k w = cond (same w n) None (number_reason most p k w)
 
-unfoldable pub list_reason : List (List ℕ) → ℕ → ℕ → List ℕ → Reason
-list_reason ns p k w = cond (listed ns w) reason.Fine (reason.NotListed p k)
+unfoldable pub list_reason : List (List ℕ) → ℕ → ℕ → List ℕ → Option Reason
+list_reason ns p k w = cond (listed ns w) None (Some (reason.NotListed p k))
 
 -- of the kinds t o f a m s k
-unfoldable pub choice_reason : ℕ → ℕ → List ℕ → Reason
+unfoldable pub choice_reason : ℕ → ℕ → List ℕ → Option Reason
 choice_reason k p w =
     cond (eqb k 116) (or_number name.never p k w)
     (cond (eqb k 111) (or_number name.none p k w)
@@ -79,10 +65,10 @@ choice_reason k p w =
     (cond (eqb k 97) (list_reason (name.x64 ∷ name.x86 ∷ []) p k w)
     (cond (eqb k 109) (list_reason (name.image ∷ name.pool ∷ []) p k w)
     (cond (eqb k 115) (list_reason (name.any ∷ name.all ∷ []) p k w)
-    (cond (eqb k 107) (list_reason (name.mutex ∷ name.event ∷ name.timer ∷ name.thread ∷ []) p k w) (reason.Extra p)))))))
+    (cond (eqb k 107) (list_reason (name.mutex ∷ name.event ∷ name.timer ∷ name.thread ∷ []) p k w) (Some (reason.Extra p))))))))
 
 -- of the kinds n v b w i, and those
-unfoldable pub word_reason : ℕ → ℕ → List ℕ → Reason
+unfoldable pub word_reason : ℕ → ℕ → List ℕ → Option Reason
 word_reason k p w =
     cond (eqb k 110) (number_reason most p k w)
     (cond (eqb k 118) (number_reason most p k w)
@@ -101,11 +87,11 @@ unfoldable pub next_of : ℕ → List ℕ → ℕ → ℕ
 next_of k w i = cond (eqb k 118) (i - 1) (cond (eqb k 109) (cond (same w name.image) (i + 2) (i + 1)) (i + 1))
 
 -- of the kinds . k v none need stand
-unfoldable pub end_reason : ℕ → ℕ → Reason
-end_reason p k = cond (eqb k 46) reason.Fine (cond (eqb k 107) reason.Fine (cond (eqb k 118) reason.Fine (reason.Missing p k)))
+unfoldable pub end_reason : ℕ → ℕ → Option Reason
+end_reason p k = cond (eqb k 46) None (cond (eqb k 107) None (cond (eqb k 118) None (Some (reason.Missing p k))))
 
 -- words from number `p` on, by the letters of a form from place `i` on
-unfoldable pub reason_from : List ℕ → ℕ → ℕ → List (List ℕ) → Reason
+unfoldable pub reason_from : List ℕ → ℕ → ℕ → List (List ℕ) → Option Reason
 reason_from form i p [] = end_reason p (kind_at form i)
 reason_from form i p (w ∷ ws) =
     continued (word_reason (kind_at form i) p w) (reason_from form (next_of (kind_at form i) w i) (p + 1) ws)
@@ -118,19 +104,19 @@ form_of [] w = []
 form_of (n ∷ []) w = []
 form_of (n ∷ f ∷ rows) w = cond (same w n) f (form_of rows w)
 
-unfoldable pub form_reason : List ℕ → ℕ → List (List ℕ) → Reason
-form_reason [] p ws = reason.UnknownWord p
+unfoldable pub form_reason : List ℕ → ℕ → List (List ℕ) → Option Reason
+form_reason [] p ws = Some (reason.UnknownWord p)
 form_reason (k ∷ f) p ws = reason_from (k ∷ f) 0 (p + 1) ws
 
-unfoldable pub named_reason : List (List ℕ) → ℕ → List (List ℕ) → Reason
+unfoldable pub named_reason : List (List ℕ) → ℕ → List (List ℕ) → Option Reason
 named_reason rows p ws = form_reason (form_of rows (first ws)) p (others ws)
 
 -- behind `clock`: its names have the kind c, 99
-unfoldable pub clock_reason : List (List ℕ) → Reason
-clock_reason ws = cond (none ws) (reason.Missing 1 99) (named_reason clock_grammar 1 ws)
+unfoldable pub clock_reason : List (List ℕ) → Option Reason
+clock_reason ws = cond (none ws) (Some (reason.Missing 1 99)) (named_reason clock_grammar 1 ws)
 
-unfoldable pub words_reason : List (List ℕ) → Reason
-words_reason ws = cond (none ws) reason.NoWord (cond (same (first ws) name.clock) (clock_reason (others ws)) (named_reason grammar 0 ws))
+unfoldable pub words_reason : List (List ℕ) → Option Reason
+words_reason ws = cond (none ws) (Some reason.NoWord) (cond (same (first ws) name.clock) (clock_reason (others ws)) (named_reason grammar 0 ws))
 
-unfoldable pub reason_of : List ℕ → Reason
-reason_of s = cond (ltb 4096 (length s)) reason.TooLong (words_reason (words_of (take (text_length s) s)))
+unfoldable pub reason_of : List ℕ → Option Reason
+reason_of s = cond (ltb 4096 (length s)) (Some reason.TooLong) (words_reason (words_of (take (text_length s) s)))

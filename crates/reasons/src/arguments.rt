@@ -5,7 +5,6 @@ ghost use Rattle.reasons.specs.Reasons.{digits, is_numeral, unread_number, numbe
 
 use super::{Reason, table};
 use script_lex::lex;
-use script_lex::lex::{Number, Signed};
 
 // Whether the bytes from `from` to `to` are digits, one or more.
 fn are_digits(line: &[u8], from: usize, to: usize) -> bool
@@ -48,6 +47,7 @@ fn is_numeral(line: &[u8], at: usize) -> bool
 }
 
 // The first word should tell a number, and does not.
+#[tactic(auto, unfolding(crate::specs::Reasons::unread_number))]
 fn unread_number(line: &[u8], at: usize, place: usize, kind: u8) -> Reason
     ensures { result ≡ unread_number place kind (first (words_at line.now at)) }
 {
@@ -57,92 +57,77 @@ fn unread_number(line: &[u8], at: usize, place: usize, kind: u8) -> Reason
     Reason::NotNumber(place, kind)
 }
 
-fn number_reason(line: &[u8], at: usize, place: usize, kind: u8, limit: u64) -> Reason
+#[tactic(auto, unfolding(crate::specs::Reasons::number_reason, crate::specs::Reasons::of_number))]
+fn number_reason(line: &[u8], at: usize, place: usize, kind: u8, limit: u64) -> Option<Reason>
     ensures { result ≡ number_reason limit place kind (first (words_at line.now at)) }
 {
     match lex::number_at(line, at, limit) {
-        Number::Unread => unread_number(line, at, place, kind),
-        Number::Read(_) => Reason::Fine,
+        Some(_) => None,
+        None => Some(unread_number(line, at, place, kind)),
     }
 }
 
-fn signed_reason(line: &[u8], at: usize, place: usize, kind: u8) -> Reason
+#[tactic(auto, unfolding(crate::specs::Reasons::signed_reason, crate::specs::Reasons::of_signed))]
+fn signed_reason(line: &[u8], at: usize, place: usize, kind: u8) -> Option<Reason>
     ensures { result ≡ signed_reason place kind (first (words_at line.now at)) }
 {
     match lex::signed_at(line, at) {
-        Signed::Unread => unread_number(line, at, place, kind),
-        Signed::Read(_) => Reason::Fine,
+        Some(_) => None,
+        None => Some(unread_number(line, at, place, kind)),
     }
 }
 
 // One word, or a number of 64 bits.
-fn or_number(line: &[u8], at: usize, place: usize, kind: u8, name: &[u8]) -> Reason
+#[tactic(auto, unfolding(crate::specs::Reasons::or_number))]
+fn or_number(line: &[u8], at: usize, place: usize, kind: u8, name: &[u8]) -> Option<Reason>
     ensures { result ≡ or_number name.now place kind (first (words_at line.now at)) }
 {
     if lex::is_word(line, at, name) {
-        return Reason::Fine;
+        return None;
     }
     number_reason(line, at, place, kind, u64::MAX)
 }
 
 // One of the words of a list.
-fn list_reason(line: &[u8], at: usize, place: usize, kind: u8, list: &[u8]) -> Reason
+#[tactic(auto, unfolding(crate::specs::Reasons::list_reason))]
+fn list_reason(line: &[u8], at: usize, place: usize, kind: u8, list: &[u8]) -> Option<Reason>
     ensures { result ≡ list_reason (words_at list.now 0) place kind (first (words_at line.now at)) }
 {
     if table::is_listed(line, at, list) {
-        return Reason::Fine;
+        return None;
     }
-    Reason::NotListed(place, kind)
+    Some(Reason::NotListed(place, kind))
 }
 
 // The first word, of a kind that has words of its own.
-fn choice_reason(line: &[u8], at: usize, place: usize, kind: u8) -> Reason
+#[tactic(auto, unfolding(crate::specs::Reasons::choice_reason))]
+fn choice_reason(line: &[u8], at: usize, place: usize, kind: u8) -> Option<Reason>
     ensures { result ≡ choice_reason kind place (first (words_at line.now at)) }
 {
-    if kind == b't' {
-        return or_number(line, at, place, kind, b"never");
+    match kind {
+        b't' => or_number(line, at, place, kind, b"never"),
+        b'o' => or_number(line, at, place, kind, b"none"),
+        b'f' => list_reason(line, at, place, kind, b"0 1"),
+        b'a' => list_reason(line, at, place, kind, b"x64 x86"),
+        b'm' => list_reason(line, at, place, kind, b"image pool"),
+        b's' => list_reason(line, at, place, kind, b"any all"),
+        b'k' => list_reason(line, at, place, kind, b"mutex event timer thread"),
+        _ => Some(Reason::Extra(place)),
     }
-    if kind == b'o' {
-        return or_number(line, at, place, kind, b"none");
-    }
-    if kind == b'f' {
-        return list_reason(line, at, place, kind, b"0 1");
-    }
-    if kind == b'a' {
-        return list_reason(line, at, place, kind, b"x64 x86");
-    }
-    if kind == b'm' {
-        return list_reason(line, at, place, kind, b"image pool");
-    }
-    if kind == b's' {
-        return list_reason(line, at, place, kind, b"any all");
-    }
-    if kind == b'k' {
-        return list_reason(line, at, place, kind, b"mutex event timer thread");
-    }
-    Reason::Extra(place)
 }
 
 // The first word, of any kind.
-fn word_reason(line: &[u8], at: usize, place: usize, kind: u8) -> Reason
+#[tactic(auto, unfolding(crate::specs::Reasons::word_reason))]
+fn word_reason(line: &[u8], at: usize, place: usize, kind: u8) -> Option<Reason>
     ensures { result ≡ word_reason kind place (first (words_at line.now at)) }
 {
-    if kind == b'n' {
-        return number_reason(line, at, place, kind, u64::MAX);
+    match kind {
+        b'n' | b'v' => number_reason(line, at, place, kind, u64::MAX),
+        b'b' => number_reason(line, at, place, kind, 255),
+        b'w' => number_reason(line, at, place, kind, 4_294_967_295),
+        b'i' => signed_reason(line, at, place, kind),
+        _ => choice_reason(line, at, place, kind),
     }
-    if kind == b'v' {
-        return number_reason(line, at, place, kind, u64::MAX);
-    }
-    if kind == b'b' {
-        return number_reason(line, at, place, kind, 255);
-    }
-    if kind == b'w' {
-        return number_reason(line, at, place, kind, 4_294_967_295);
-    }
-    if kind == b'i' {
-        return signed_reason(line, at, place, kind);
-    }
-    choice_reason(line, at, place, kind)
 }
 
 // The letter at a place of a form; behind them all, that of its end.
@@ -156,44 +141,32 @@ fn kind_at(form: &[u8], i: usize) -> u8
 }
 
 // The place of the kind behind that of the first word.
+#[tactic(auto, unfolding(crate::specs::Reasons::next_of))]
 fn next(line: &[u8], at: usize, kind: u8, i: usize) -> usize
     requires { i ≤ 65536 }
     ensures value { result ≡ next_of kind (first (words_at line.now at)) i }
     ensures upper_bound { result ≤ i + 2 }
 {
-    if kind == b'v' {
-        if i == 0 {
-            return 0;
-        }
-        return i - 1;
+    match kind {
+        b'v' => i.saturating_sub(1),
+        b'm' if lex::is_word(line, at, b"image") => i + 2,
+        _ => i + 1,
     }
-    if kind == b'm' {
-        if lex::is_word(line, at, b"image") {
-            return i + 2;
-        }
-        return i + 1;
-    }
-    i + 1
 }
 
 // A line that ends where a word of this kind is wanted.
-fn end_reason(place: usize, kind: u8) -> Reason
+#[tactic(auto, unfolding(crate::specs::Reasons::end_reason))]
+fn end_reason(place: usize, kind: u8) -> Option<Reason>
     ensures { result ≡ end_reason place kind }
 {
-    if kind == b'.' {
-        return Reason::Fine;
+    match kind {
+        b'.' | b'k' | b'v' => None,
+        _ => Some(Reason::Missing(place, kind)),
     }
-    if kind == b'k' {
-        return Reason::Fine;
-    }
-    if kind == b'v' {
-        return Reason::Fine;
-    }
-    Reason::Missing(place, kind)
 }
 
 // The words from `from` on, the first of which has the number `number`.
-pub fn reason_from(line: &[u8], from: usize, number: usize, form: &[u8]) -> Reason
+pub fn reason_from(line: &[u8], from: usize, number: usize, form: &[u8]) -> Option<Reason>
     requires { (length line.now ≤ 4096) × (number ≤ 2) }
     ensures { result ≡ reason_from form.now 0 number (words_at line.now from) }
 {
@@ -202,9 +175,8 @@ pub fn reason_from(line: &[u8], from: usize, number: usize, form: &[u8]) -> Reas
     let mut i: usize = 0;
     while !lex::is_end(line, at) {
         let kind = kind_at(form, i);
-        let reason = word_reason(line, at, place, kind);
-        if !super::is_fine(reason) {
-            return reason;
+        if let Some(reason) = word_reason(line, at, place, kind) {
+            return Some(reason);
         }
         i = next(line, at, kind, i);
         at = lex::behind(line, at);

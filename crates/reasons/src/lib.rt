@@ -3,7 +3,7 @@
 
 ghost use Rattle.std.specs.Prelude.{◌≡◌, ◌≤◌, length};
 ghost use Rattle.script_lex.specs.Words.{words_at};
-ghost use Rattle.reasons.specs.Reasons.{is_fine, continued, named_reason, clock_reason, words_reason, reason_of};
+ghost use Rattle.reasons.specs.Reasons.{continued, named_reason, clock_reason, words_reason, reason_of};
 
 use script_lex::lex;
 
@@ -13,7 +13,6 @@ mod table;
 // Where a reason has a place, the word of that number is meant, the first has 0; where it has a kind, that is the letter of what is wanted there.
 #[derive(Clone, Copy)]
 pub enum Reason {
-    Fine,
     // The line has more than 4,096 bytes.
     TooLong,
     NoWord,
@@ -29,17 +28,8 @@ pub enum Reason {
     BeforeClock,
 }
 
-pub fn is_fine(reason: Reason) -> bool
-    ensures { result ≡ is_fine reason }
-{
-    match reason {
-        Reason::Fine => true,
-        _ => false,
-    }
-}
-
 // The words from `at` on, the first of which names its form in the table.
-fn named_reason(line: &[u8], at: usize, place: usize, table: &[u8]) -> Reason
+fn named_reason(line: &[u8], at: usize, place: usize, table: &[u8]) -> Option<Reason>
     requires { (length line.now ≤ 4096) × (place ≤ 1) }
     ensures { result ≡ named_reason (words_at table.now 0) place (words_at line.now at) }
 {
@@ -47,22 +37,22 @@ fn named_reason(line: &[u8], at: usize, place: usize, table: &[u8]) -> Reason
     let from = lex::word_start(table, row);
     let to = lex::word_end(table, from);
     if table.len() < to {
-        return Reason::UnknownWord(place);
+        return Some(Reason::UnknownWord(place));
     }
     if to <= from {
-        return Reason::UnknownWord(place);
+        return Some(Reason::UnknownWord(place));
     }
     let rest = lex::behind(line, at);
     arguments::reason_from(line, rest, place + 1, &table[from..to])
 }
 
 // The words behind `clock`.
-fn clock_reason(line: &[u8], at: usize) -> Reason
+fn clock_reason(line: &[u8], at: usize) -> Option<Reason>
     requires { length line.now ≤ 4096 }
     ensures { result ≡ clock_reason (words_at line.now at) }
 {
     if lex::is_end(line, at) {
-        return Reason::Missing(1, b'c');
+        return Some(Reason::Missing(1, b'c'));
     }
     named_reason(
         line,
@@ -72,12 +62,12 @@ fn clock_reason(line: &[u8], at: usize) -> Reason
     )
 }
 
-fn words_reason(line: &[u8]) -> Reason
+fn words_reason(line: &[u8]) -> Option<Reason>
     requires { length line.now ≤ 4096 }
     ensures { result ≡ words_reason (words_at line.now 0) }
 {
     if lex::is_end(line, 0) {
-        return Reason::NoWord;
+        return Some(Reason::NoWord);
     }
     if lex::is_word(line, 0, b"clock") {
         return clock_reason(line, lex::behind(line, 0));
@@ -91,23 +81,20 @@ fn words_reason(line: &[u8]) -> Reason
 }
 
 // Why a line, which comes without its newline, cannot be read.
-pub fn reason_of(line: &[u8]) -> Reason
+pub fn reason_of(line: &[u8]) -> Option<Reason>
     ensures { result ≡ reason_of line.now }
 {
     if 4096 < line.len() {
-        return Reason::TooLong;
+        return Some(Reason::TooLong);
     }
     let n = script::text_length(line);
     words_reason(&line[..n])
 }
 
 // The reason of a line to which its session has one too, which shows where the line itself is fine.
-pub fn reason_in(line: &[u8], session: Reason) -> Reason
+#[tactic(auto, unfolding(crate::specs::Reasons::continued, crate::specs::Reasons::is_fine))]
+pub fn reason_in(line: &[u8], session: Option<Reason>) -> Option<Reason>
     ensures { result ≡ continued (reason_of line.now) session }
 {
-    let own = reason_of(line);
-    if is_fine(own) {
-        return session;
-    }
-    own
+    reason_of(line).or(session)
 }
