@@ -1,6 +1,7 @@
 -- What a command that a match leaves over asks of the scheduler's words.
 use mathlib.Core.Path.{◌≡◌, refl}
 use mathlib.Core.List.{List}
+use Rattle.std.specs.Prelude.{Some}
 use Prim.Native.Nat.{ℕ}
 use mathlib.Core.Bool.{Bool}
 use lib.IntN.{ℤ}
@@ -50,9 +51,8 @@ pub record NoWords (c : Command) : Type 0 where
   pub returned_dpc : (address sequence : ℕ) → c ≡ command.ReturnedDpc address sequence → ⊥
   pub restored_dpc : (address sequence : ℕ) → c ≡ command.RestoredDpc address sequence → ⊥
 
-pub no_words : (w list : List ℕ) (c : Command) → NoWords c → outcome (answer.Refused 28) w ≡ on_words w (asked list c)
+pub no_words : (w list : List ℕ) (c : Command) → NoWords c → outcome (answer.Refused 28) w ≡ on_words w (asked list (Some c))
 unfolding asked on_words
-no_words w list command.Unread q = refl
 no_words w list (command.Open p) q = refl
 no_words w list (command.Event key manual signaled) q = absurd (q.event key manual signaled refl)
 no_words w list (command.Create p) q = absurd (q.create p refl)

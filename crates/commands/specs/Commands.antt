@@ -1,5 +1,5 @@
 -- Which call a command of a script makes, and what it does to the scheduler's words.
-use Rattle.std.specs.Prelude.{Bool, cond, List, ℕ, ltb, length, take, Result}
+use Rattle.std.specs.Prelude.{Bool, cond, List, ℕ, ltb, length, take, Option, Some, None, Result}
 use Rattle.answers.specs.declared.Answer.{Answer}
 use Rattle.answers.specs.declared.Answer.TheVariants as answer
 use Rattle.answers.specs.Outcome.{Outcome, outcome}
@@ -71,55 +71,55 @@ abbrev pub waiting : List ℕ → Bool → Bool → ℕ → ℕ → ℕ → Aske
 waiting list all timed deadline irql count = cond (ltb (length list) count) nothing (calls (call.Wait (take count list) all (optional timed deadline) irql) tt)
 
 -- the call of each command; `current` and `mutex_owner` print a bare number
-unfoldable pub asked : List ℕ → Command → Asked
-asked list command.Unread = nothing
-asked list (command.Open p) = begins p
-asked list (command.Event key manual signaled) = calls (call.InitializeEvent key manual signaled) tt
-asked list (command.Create p) = calls (call.CreateThread p) tt
-asked list (command.Wait all timed deadline irql count) = waiting list all timed deadline irql count
-asked list command.Dispatch = dispatching
-asked list (command.Set key) = calls (call.SetEvent key) tt
-asked list command.Yield = calls call.YieldCurrent tt
-asked list command.Current = bares (call.Reads call.Current) tt
-asked list (command.RequireEventRelease base size layout) = calls (call.Reads (call.RequireEventRelease base size layout)) tt
-asked list (command.RetireEventBacking base size layout) = calls (call.RetireEventBacking base size layout) tt
-asked list (command.MutexOwner key) = bares (call.Reads (call.MutexOwner key)) tt
-asked list (command.AdoptMutex key owned owner) = calls (call.AdoptMutex key (optional owned owner)) tt
-asked list (command.MutexWaiters key) = calls (call.Reads (call.MutexWaiters key)) tt
-asked list (command.Priority id priority) = calls (call.Priority id priority) tt
-asked list (command.InitializeMutex key) = calls (call.InitializeMutex key) tt
-asked list (command.DelayUntil deadline irql) = calls (call.DelayUntil deadline irql) tt
-asked list (command.AdvanceTo time) = calls (call.AdvanceTo time) tt
-asked list (command.ReleaseMutex key) = calls (call.ReleaseMutex key) tt
-asked list (command.ResetEvent key) = calls (call.ResetEvent key) tt
-asked list (command.Terminate status) = calls (call.Terminate status) tt
-asked list command.TimerInitializations = calls (call.Reads call.TimerInitializations) tt
-asked list command.DpcInitializations = calls (call.Reads call.DpcInitializations) tt
-asked list (command.TimerReadOverlap address size) = calls (call.Reads (call.TimerReadOverlap address size)) tt
-asked list (command.TimerMetadataOverlap address size) = calls (call.Reads (call.TimerMetadataOverlap address size)) tt
-asked list (command.InitializeTimer address architecture backing manual) = calls (call.InitializeTimer address architecture backing manual) tt
-asked list (command.InitializeDpc address architecture backing routine context) = calls (call.InitializeDpc address architecture backing routine context) tt
-asked list (command.SetTimer address due absolute period dpc) = calls (call.SetTimer address due absolute period dpc) tt
-asked list (command.CancelTimer address) = calls (call.CancelTimer address) tt
-asked list (command.RequireTimerRelease address size) = calls (call.Reads (call.RequireTimerRelease address size)) tt
-asked list (command.RetireTimerBacking address size) = calls (call.RetireTimerBacking address size) tt
-asked list (command.ConfigureDpcDispatch first second) = calls (call.ConfigureDpcDispatch first second) tt
-asked list (command.QueuedDpcs position) = calls (call.Reads (call.QueuedDpcs position)) tt
-asked list (command.InsertQueueDpc address first second) = calls (call.InsertQueueDpc address first second) tt
-asked list (command.RemoveQueueDpc address) = calls (call.RemoveQueueDpc address) tt
-asked list (command.StartDpc address) = works address
-asked list (command.ReturnedDpc address sequence) = calls (call.ReturnedDpc address sequence) tt
-asked list (command.RestoredDpc address sequence) = calls (call.RestoredDpc address sequence) tt
-asked list (command.ClockNew utc uptime offset mhz) = creates (created utc uptime offset mhz)
-asked list command.ClockInstruction = moves instruction
-asked list (command.ClockAdvanceMicroseconds n) = moves (λ (c : GuestClock). advance_microseconds c n)
-asked list (command.ClockAdvance100ns n) = moves (λ (c : GuestClock). advance100ns c n)
-asked list (command.ClockAdvanceMilliseconds n) = moves (λ (c : GuestClock). advance_milliseconds c n)
-asked list command.ClockFlushCycles = moves flush_cycles
-asked list command.ClockObserve = moves observe
-asked list command.ClockQpc = asks qpc
-asked list command.ClockTick64 = asks tick64
-asked list command.ClockTsc = asks tsc
+unfoldable pub asked : List ℕ → Option Command → Asked
+asked list None = nothing
+asked list (Some (command.Open p)) = begins p
+asked list (Some (command.Event key manual signaled)) = calls (call.InitializeEvent key manual signaled) tt
+asked list (Some (command.Create p)) = calls (call.CreateThread p) tt
+asked list (Some (command.Wait all timed deadline irql count)) = waiting list all timed deadline irql count
+asked list (Some command.Dispatch) = dispatching
+asked list (Some (command.Set key)) = calls (call.SetEvent key) tt
+asked list (Some command.Yield) = calls call.YieldCurrent tt
+asked list (Some command.Current) = bares (call.Reads call.Current) tt
+asked list (Some (command.RequireEventRelease base size layout)) = calls (call.Reads (call.RequireEventRelease base size layout)) tt
+asked list (Some (command.RetireEventBacking base size layout)) = calls (call.RetireEventBacking base size layout) tt
+asked list (Some (command.MutexOwner key)) = bares (call.Reads (call.MutexOwner key)) tt
+asked list (Some (command.AdoptMutex key owned owner)) = calls (call.AdoptMutex key (optional owned owner)) tt
+asked list (Some (command.MutexWaiters key)) = calls (call.Reads (call.MutexWaiters key)) tt
+asked list (Some (command.Priority id priority)) = calls (call.Priority id priority) tt
+asked list (Some (command.InitializeMutex key)) = calls (call.InitializeMutex key) tt
+asked list (Some (command.DelayUntil deadline irql)) = calls (call.DelayUntil deadline irql) tt
+asked list (Some (command.AdvanceTo time)) = calls (call.AdvanceTo time) tt
+asked list (Some (command.ReleaseMutex key)) = calls (call.ReleaseMutex key) tt
+asked list (Some (command.ResetEvent key)) = calls (call.ResetEvent key) tt
+asked list (Some (command.Terminate status)) = calls (call.Terminate status) tt
+asked list (Some command.TimerInitializations) = calls (call.Reads call.TimerInitializations) tt
+asked list (Some command.DpcInitializations) = calls (call.Reads call.DpcInitializations) tt
+asked list (Some (command.TimerReadOverlap address size)) = calls (call.Reads (call.TimerReadOverlap address size)) tt
+asked list (Some (command.TimerMetadataOverlap address size)) = calls (call.Reads (call.TimerMetadataOverlap address size)) tt
+asked list (Some (command.InitializeTimer address architecture backing manual)) = calls (call.InitializeTimer address architecture backing manual) tt
+asked list (Some (command.InitializeDpc address architecture backing routine context)) = calls (call.InitializeDpc address architecture backing routine context) tt
+asked list (Some (command.SetTimer address due absolute period dpc)) = calls (call.SetTimer address due absolute period dpc) tt
+asked list (Some (command.CancelTimer address)) = calls (call.CancelTimer address) tt
+asked list (Some (command.RequireTimerRelease address size)) = calls (call.Reads (call.RequireTimerRelease address size)) tt
+asked list (Some (command.RetireTimerBacking address size)) = calls (call.RetireTimerBacking address size) tt
+asked list (Some (command.ConfigureDpcDispatch first second)) = calls (call.ConfigureDpcDispatch first second) tt
+asked list (Some (command.QueuedDpcs position)) = calls (call.Reads (call.QueuedDpcs position)) tt
+asked list (Some (command.InsertQueueDpc address first second)) = calls (call.InsertQueueDpc address first second) tt
+asked list (Some (command.RemoveQueueDpc address)) = calls (call.RemoveQueueDpc address) tt
+asked list (Some (command.StartDpc address)) = works address
+asked list (Some (command.ReturnedDpc address sequence)) = calls (call.ReturnedDpc address sequence) tt
+asked list (Some (command.RestoredDpc address sequence)) = calls (call.RestoredDpc address sequence) tt
+asked list (Some (command.ClockNew utc uptime offset mhz)) = creates (created utc uptime offset mhz)
+asked list (Some command.ClockInstruction) = moves instruction
+asked list (Some (command.ClockAdvanceMicroseconds n)) = moves (λ (c : GuestClock). advance_microseconds c n)
+asked list (Some (command.ClockAdvance100ns n)) = moves (λ (c : GuestClock). advance100ns c n)
+asked list (Some (command.ClockAdvanceMilliseconds n)) = moves (λ (c : GuestClock). advance_milliseconds c n)
+asked list (Some command.ClockFlushCycles) = moves flush_cycles
+asked list (Some command.ClockObserve) = moves observe
+asked list (Some command.ClockQpc) = asks qpc
+asked list (Some command.ClockTick64) = asks tick64
+asked list (Some command.ClockTsc) = asks tsc
 
 -- ---- what it does to the scheduler's words
 

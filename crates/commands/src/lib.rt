@@ -1,7 +1,7 @@
 // The commands of a script on the scheduler's words: each makes the call that the table says.
 #![tactic(auto)]
 
-ghost use Rattle.std.specs.Prelude.{◌≡◌};
+ghost use Rattle.std.specs.Prelude.{◌≡◌, Some};
 ghost use Rattle.answers.specs.Outcome.{outcome};
 ghost use Rattle.commands.specs.Commands as spec;
 
@@ -41,7 +41,7 @@ fn wait(
 
 // The commands on the scheduler's words, but for a dispatch; another is none of them.
 pub fn on_words(w: &mut [u64], list: &[u64], c: Command) -> Answer
-    ensures { outcome result w.new ≡ spec.on_words w.old (spec.asked list.now c) }
+    ensures { outcome result w.new ≡ spec.on_words w.old (spec.asked list.now (Some c)) }
 {
     match c {
         Command::Event {

@@ -4,6 +4,7 @@ use mathlib.Core.Bool.{Bool, cond, true, false}
 use mathlib.Core.List.{List, [], ◌∷◌, ◌++◌, append-nil, append_assoc}
 use Prim.Native.Nat.{ℕ, ◌≤◌}
 use lib.ListN.{length, take}
+use Rattle.std.specs.Prelude.{Some}
 use Rattle.answers.specs.declared.Answer.{Answer}
 use Rattle.answers.specs.declared.Answer.TheVariants as answer
 use Rattle.script_lex.specs.Text.{bytes_of}
@@ -63,17 +64,10 @@ same-bench w out list line number s text text' at at' = record { session = refl;
 
 -- ---- the reason of a line that is refused with 28
 
-session-not-fine : (line : List ℕ) (opened : Bool) → is_fine (session_reason line opened) ≡ false
-unfolding session_reason is_fine
-session-not-fine line opened =
-    either opened
-    (λ e. either (same (first (words_of (take (text_length line) line))) name.opens) (λ f. simp (e, f)) (λ f. simp (e, f)))
-    (λ e. simp e)
-
 -- it has one
 pub never-fine : (line : List ℕ) (opened : Bool) → is_fine (reason_in line opened) ≡ false
-unfolding reason_in continued
-never-fine line opened = either (is_fine (reason_of line)) (λ e. simp e (session-not-fine line opened)) (λ e. simp e)
+unfolding reason_in continued is_fine
+never-fine line opened = either (is_fine (reason_of line)) (λ e. simp e) (λ e. simp e)
 
 -- a line that is not read has its own, and one that is read the session's
 pub own : (line list : List ℕ) (opened : Bool) → 2048 ≤ length list → reads (read_line line list).command ≡ false → reason_in line opened ≡ reason_of line
@@ -81,6 +75,6 @@ unfolding reason_in continued
 own line list opened h e = simp (sym (law line list h) ∙ e)
 
 pub of-session : (line list : List ℕ) (opened : Bool) → 2048 ≤ length list → reads (read_line line list).command ≡ true
-    → reason_in line opened ≡ session_reason line opened
+    → reason_in line opened ≡ Some (session_reason line opened)
 unfolding reason_in continued
 of-session line list opened h e = simp (sym (law line list h) ∙ e)

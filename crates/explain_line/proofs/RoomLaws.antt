@@ -15,6 +15,7 @@ use Rattle.script_lex.proofs.Cases.{either}
 use Rattle.script.specs.Line.{text_length}
 use Rattle.script_print.specs.Print.{answer_text, answer_line}
 use Rattle.script_print.proofs.RoomLaws.{line-short}
+use Rattle.std.specs.Prelude.{Option, Some, None}
 use Rattle.reasons.specs.declared.Reason.{Reason}
 use Rattle.reasons.specs.declared.Reason.TheVariants as reason
 use Rattle.reason_text.specs.Words.{shown, skipped, quoted}
@@ -107,20 +108,20 @@ kind-short k =
     either (eqb k 105) (λ e. simp e (omega arith)) (λ e. simp e (
     choice-short k))))))))))
 
-words-short : (r : Reason) (ws : List (List ℕ)) → length (words_text r ws) ≤ 120
+words-short : (r : Option Reason) (ws : List (List ℕ)) → length (words_text r ws) ≤ 120
 unfolding words_text
-words-short reason.Fine ws = omega arith
-words-short reason.TooLong ws = omega arith
-words-short reason.NoWord ws = omega arith
-words-short (reason.UnknownWord p) ws = simp length-append (omega (arith, quoted-short p ws))
-words-short (reason.Missing p k) ws = simp length-append (omega (arith, kind-short k))
-words-short (reason.NotNumber p k) ws = simp length-append (omega (arith, quoted-short p ws, kind-short k))
-words-short (reason.OutOfRange p k) ws = simp length-append (omega (arith, quoted-short p ws, kind-short k))
-words-short (reason.NotListed p k) ws = simp length-append (omega (arith, quoted-short p ws, kind-short k))
-words-short (reason.Extra p) ws = simp length-append (omega (arith, quoted-short p ws))
-words-short reason.BeforeOpen ws = omega arith
-words-short reason.SecondOpen ws = omega arith
-words-short reason.BeforeClock ws = omega arith
+words-short None ws = omega arith
+words-short (Some reason.TooLong) ws = omega arith
+words-short (Some reason.NoWord) ws = omega arith
+words-short (Some (reason.UnknownWord p)) ws = simp length-append (omega (arith, quoted-short p ws))
+words-short (Some (reason.Missing p k)) ws = simp length-append (omega (arith, kind-short k))
+words-short (Some (reason.NotNumber p k)) ws = simp length-append (omega (arith, quoted-short p ws, kind-short k))
+words-short (Some (reason.OutOfRange p k)) ws = simp length-append (omega (arith, quoted-short p ws, kind-short k))
+words-short (Some (reason.NotListed p k)) ws = simp length-append (omega (arith, quoted-short p ws, kind-short k))
+words-short (Some (reason.Extra p)) ws = simp length-append (omega (arith, quoted-short p ws))
+words-short (Some reason.BeforeOpen) ws = omega arith
+words-short (Some reason.SecondOpen) ws = omega arith
+words-short (Some reason.BeforeClock) ws = omega arith
 
 why-short : (line : List ℕ) (opened : Bool) (n : ℕ) → length (why line opened n) ≤ 120
 unfolding why reason_text

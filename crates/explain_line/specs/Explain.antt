@@ -1,5 +1,5 @@
 -- A line of a script to the line of its answer, and beside a refusal why.
-use Rattle.std.specs.Prelude.{Bool, cond, List, [], ◌++◌, ℕ, eqb, take}
+use Rattle.std.specs.Prelude.{Bool, cond, List, [], ◌++◌, ℕ, eqb, take, Option, Some}
 use Rattle.answers.specs.declared.Answer.{Answer}
 use Rattle.answers.specs.declared.Answer.TheVariants as answer
 use Rattle.script_lex.specs.Text.{bytes_of}
@@ -23,8 +23,8 @@ session_reason line opened =
     cond opened (cond (same (first (words_of (take (text_length line) line))) name.opens) reason.SecondOpen reason.BeforeClock) reason.BeforeOpen
 
 -- the line's own reason, or the session's where it can be read
-unfoldable pub reason_in : List ℕ → Bool → Reason
-reason_in line opened = continued (reason_of line) (session_reason line opened)
+unfoldable pub reason_in : List ℕ → Bool → Option Reason
+reason_in line opened = continued (reason_of line) (Some (session_reason line opened))
 
 -- of a refusal's number
 unfoldable pub why : List ℕ → Bool → ℕ → List ℕ

@@ -33,7 +33,7 @@ fn put_why(text: &mut Text, line: &[u8], opened: bool, number: u64)
     ensures { Prints text.old text.new (why line.now opened number) }
 {
     if number == 28 {
-        let reason = reasons::reason_in(line, session_reason(line, opened));
+        let reason = reasons::reason_in(line, Some(session_reason(line, opened)));
         return reason_text::put_reason(text, line, reason);
     }
     refusal_text::put_sentence(text, number);

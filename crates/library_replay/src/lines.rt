@@ -36,10 +36,7 @@ fn numbers_of(line: &[u8], numbers: &mut [u64]) -> usize
         if lex::is_end(line, at) {
             return i;
         }
-        numbers[i] = match lex::number_at(line, at, u64::MAX) {
-            lex::Number::Unread => 0,
-            lex::Number::Read(n) => n,
-        };
+        numbers[i] = lex::number_at(line, at, u64::MAX).unwrap_or(0);
         at = lex::behind(line, at);
     }
     numbers.len()

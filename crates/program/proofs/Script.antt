@@ -24,6 +24,7 @@ use Rattle.threads.specs.Thread.{thread_count}
 use Rattle.dispatcher.specs.Dispatch.{Dispatched, listed_in, listed, listed_to, noted, noted_to, is_waiting}
 use Rattle.dispatcher.specs.TimerDue.{next_time}
 use Rattle.dispatcher.specs.Dispatched.{dispatched}
+use Rattle.std.specs.Prelude.{Option}
 use Rattle.script_lex.specs.declared.command.Command.{Command}
 use Rattle.script_print.specs.Print.{bare_answer}
 use Rattle.opening.specs.Open as words
@@ -340,7 +341,7 @@ module _ (w out : List ℕ) (s : Session) (st : State) (h : Stands w out s st) w
 
   -- ---- a line, whose numbers of a wait stand in a list
 
-  pub follows : (list : List ℕ) (c : Command) → AskedFits (asked list c) → Same (performed w out list s c) (logged s st (asked list c))
+  pub follows : (list : List ℕ) (c : Option Command) → AskedFits (asked list c) → Same (performed w out list s c) (logged s st (asked list c))
   unfolding performed
   follows list c fit = go s.opened refl
     where

@@ -7,18 +7,14 @@ use native.Mathlib.Numerals.{add-one}
 use native.Mathlib.Omega.{arith}
 use borrow.Author.Tests.{lt-ltb, le-ltb, ltb-false}
 use lib.Dec.{ltb}
+use Rattle.std.specs.Prelude.{Option, Some, None}
 use lib.ListN.{length, length-set, length-take, set, take}
 use lib.Seq.{take-suc-set}
-use Rattle.script_lex.specs.declared.lex.Number.{Number}
-use Rattle.script_lex.specs.declared.lex.Number.TheVariants as number
 use Rattle.script_lex.specs.declared.command.Command.{Command}
-use Rattle.script_lex.specs.declared.command.Command.TheVariants as command
 use Rattle.script_lex.specs.Names as name
 use Rattle.script_lex.specs.Words.{words_of, first, others, same}
 use Rattle.script_lex.specs.Numbers.{number_of}
 use Rattle.script_lex.specs.Arguments.{most}
-use Rattle.script.specs.declared.wait.Pairs.{Pairs}
-use Rattle.script.specs.declared.wait.Pairs.TheVariants as pairs
 use Rattle.script.specs.Scheduler.{short_line}
 use Rattle.script.specs.Wait.{Paired, paired, item_of, is_read, told, pairs_of, Taken, taken, wait_command, with_irql, wait_from, with_deadline, wait_until, wait_line}
 use Rattle.script.specs.Line.{text_length, text_line, read_line}
@@ -37,11 +33,11 @@ fewer-others (w ∷ ws) = omega arith
 -- ---- pairs read into two lists with room for them
 
 -- none can be read in either, or in both the same numbers
-abbrev Alike : Pairs → List ℕ → Pairs → List ℕ → Type 0
-Alike pairs.Unread l pairs.Unread m = Unit
-Alike pairs.Unread l (pairs.Count k) m = ⊥
-Alike (pairs.Count n) l pairs.Unread m = ⊥
-Alike (pairs.Count n) l (pairs.Count k) m = (n ≡ k) × (n ≤ length l) × (n ≤ length m) × (take n l ≡ take n m)
+abbrev Alike : Option ℕ → List ℕ → Option ℕ → List ℕ → Type 0
+Alike None l None m = Unit
+Alike None l (Some k) m = ⊥
+Alike (Some n) l None m = ⊥
+Alike (Some n) l (Some k) m = (n ≡ k) × (n ≤ length l) × (n ≤ length m) × (take n l ≡ take n m)
 
 abbrev AlikeIn : Paired → Paired → Type 0
 AlikeIn a b = Alike a.count a.list b.count b.list
@@ -61,7 +57,7 @@ pairs-alike (w ∷ ws) i l m h k e =
     (pairs-alike ws (i + 1) (set l i n) (set m i n) (omega (arith, length-set l i n)) (omega (arith, length-set m i n)) (put-alike i n l m p q e)))
   where
     go : (b : Bool) → AlikeIn (pairs_of ws (i + 1) (set l i (told (item_of i w)))) (pairs_of ws (i + 1) (set m i (told (item_of i w))))
-        → AlikeIn (cond b (pairs_of ws (i + 1) (set l i (told (item_of i w)))) (paired pairs.Unread l)) (cond b (pairs_of ws (i + 1) (set m i (told (item_of i w)))) (paired pairs.Unread m))
+        → AlikeIn (cond b (pairs_of ws (i + 1) (set l i (told (item_of i w)))) (paired None l)) (cond b (pairs_of ws (i + 1) (set m i (told (item_of i w)))) (paired None m))
     go true x = x
     go false x = tt
 
@@ -71,7 +67,7 @@ length_pairs [] i l = refl
 length_pairs (w ∷ ws) i l = go (ltb i (length l)) (is_read (item_of i w)) (length_pairs ws (i + 1) (set l i (told (item_of i w))) ∙ length-set l i (told (item_of i w)))
   where
     go : (a b : Bool) → length (pairs_of ws (i + 1) (set l i (told (item_of i w)))).list ≡ length l
-        → length (cond a (cond b (pairs_of ws (i + 1) (set l i (told (item_of i w)))) (paired pairs.Unread l)) (paired pairs.Unread l)).list ≡ length l
+        → length (cond a (cond b (pairs_of ws (i + 1) (set l i (told (item_of i w)))) (paired None l)) (paired None l)).list ≡ length l
     go true true e = e
     go true false e = refl
     go false b e = refl
@@ -85,29 +81,29 @@ module _ (l m : List ℕ) where
     long : length t.list ≡ length l
 
   -- a command that takes nothing from the list
-  listless : (c : Command) → Ok c → TakenAlike (taken c l) (taken c m)
+  listless : (c : Option Command) → Ok c → TakenAlike (taken c l) (taken c m)
   listless c h = record { means = h.alike l m; long = refl }
 
-  unread-alike : TakenAlike (taken command.Unread l) (taken command.Unread m)
-  unread-alike = listless command.Unread unread
+  unread-alike : TakenAlike (taken None l) (taken None m)
+  unread-alike = listless None unread
 
   one_of : (b : Bool) {t u t' u' : Taken} → TakenAlike t u → TakenAlike t' u' → TakenAlike (cond b t t') (cond b u u')
   one_of true h k = h
   one_of false h k = k
 
-  wait-means : (all timed : Bool) (deadline irql : ℕ) (p q : Pairs) (a b : List ℕ) → Alike p a q b → asked a (wait_command all timed deadline irql p) ≡ asked b (wait_command all timed deadline irql q)
+  wait-means : (all timed : Bool) (deadline irql : ℕ) (p q : Option ℕ) (a b : List ℕ) → Alike p a q b → asked a (wait_command all timed deadline irql p) ≡ asked b (wait_command all timed deadline irql q)
   unfolding wait_command asked
-  wait-means all timed deadline irql pairs.Unread pairs.Unread a b h = refl
-  wait-means all timed deadline irql pairs.Unread (pairs.Count k) a b h = absurd h
-  wait-means all timed deadline irql (pairs.Count n) pairs.Unread a b h = absurd h
-  wait-means all timed deadline irql (pairs.Count n) (pairs.Count k) a b h =
+  wait-means all timed deadline irql None None a b h = refl
+  wait-means all timed deadline irql None (Some k) a b h = absurd h
+  wait-means all timed deadline irql (Some n) None a b h = absurd h
+  wait-means all timed deadline irql (Some n) (Some k) a b h =
       simp (sym h.0, le-ltb _ _ h.1, le-ltb _ _ h.2) (ap (λ (ns : List ℕ). calls (call.Wait ns all (optional timed deadline) irql) tt) h.3)
 
   module _ (room : 2048 ≤ length l) (room' : 2048 ≤ length m) where
-    irql-alike : (all timed : Bool) (deadline : ℕ) (x : Number) (ws : List (List ℕ)) → length ws ≤ 2048 → TakenAlike (with_irql all timed deadline x ws l) (with_irql all timed deadline x ws m)
+    irql-alike : (all timed : Bool) (deadline : ℕ) (x : Option ℕ) (ws : List (List ℕ)) → length ws ≤ 2048 → TakenAlike (with_irql all timed deadline x ws l) (with_irql all timed deadline x ws m)
     unfolding with_irql
-    irql-alike all timed deadline number.Unread ws h = unread-alike
-    irql-alike all timed deadline (number.Read irql) ws h =
+    irql-alike all timed deadline None ws h = unread-alike
+    irql-alike all timed deadline (Some irql) ws h =
         record {
           means = wait-means all timed deadline irql _ _ _ _ (pairs-alike ws 0 l m (omega arith) (omega arith) refl);
           long = length_pairs ws 0 l;
@@ -117,10 +113,10 @@ module _ (l m : List ℕ) where
     unfolding wait_from
     from-alike all timed deadline ws h = irql-alike all timed deadline (number_of 255 (first ws)) (others ws) (omega (arith, fewer-others ws))
 
-    deadline-alike : (all : Bool) (x : Number) (ws : List (List ℕ)) → length ws ≤ 2048 → TakenAlike (with_deadline all x ws l) (with_deadline all x ws m)
+    deadline-alike : (all : Bool) (x : Option ℕ) (ws : List (List ℕ)) → length ws ≤ 2048 → TakenAlike (with_deadline all x ws l) (with_deadline all x ws m)
     unfolding with_deadline
-    deadline-alike all number.Unread ws h = unread-alike
-    deadline-alike all (number.Read n) ws h = from-alike all true n ws h
+    deadline-alike all None ws h = unread-alike
+    deadline-alike all (Some n) ws h = from-alike all true n ws h
 
     until-alike : (all : Bool) (ws : List (List ℕ)) → length ws ≤ 2048 → TakenAlike (wait_until all ws l) (wait_until all ws m)
     unfolding wait_until

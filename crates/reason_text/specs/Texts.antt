@@ -1,5 +1,5 @@
 -- Reasons in English. The kinds of arguments are the letters of the forms.
-use Rattle.std.specs.Prelude.{cond, List, ◌++◌, ℕ, eqb, take}
+use Rattle.std.specs.Prelude.{cond, List, ◌++◌, ℕ, eqb, take, Option, Some, None}
 use Rattle.script_lex.specs.Text.{bytes_of}
 use Rattle.script_lex.specs.Words.{words_of}
 use Rattle.script.specs.Line.{text_length}
@@ -37,19 +37,19 @@ abbrev pub missing : ℕ → List ℕ
 missing k = bytes_of "an argument is missing: expected " ++ kind_text k
 
 -- of the words of a line
-unfoldable pub words_text : Reason → List (List ℕ) → List ℕ
-words_text reason.Fine ws = bytes_of "the line can be read"
-words_text reason.TooLong ws = bytes_of "the line has more than 4096 bytes"
-words_text reason.NoWord ws = bytes_of "the line has no word"
-words_text (reason.UnknownWord p) ws = named (bytes_of "unknown word ") p ws
-words_text (reason.Missing p k) ws = missing k
-words_text (reason.NotNumber p k) ws = wanted p ws (bytes_of " is not a number: expected ") k
-words_text (reason.OutOfRange p k) ws = wanted p ws (bytes_of " is out of range: expected ") k
-words_text (reason.NotListed p k) ws = wanted p ws (bytes_of " is not known here: expected ") k
-words_text (reason.Extra p) ws = named (bytes_of "extra argument ") p ws
-words_text reason.BeforeOpen ws = bytes_of "no open has succeeded yet"
-words_text reason.SecondOpen ws = bytes_of "an open has succeeded already"
-words_text reason.BeforeClock ws = bytes_of "no clock new has succeeded yet"
+unfoldable pub words_text : Option Reason → List (List ℕ) → List ℕ
+words_text None ws = bytes_of "the line can be read"
+words_text (Some reason.TooLong) ws = bytes_of "the line has more than 4096 bytes"
+words_text (Some reason.NoWord) ws = bytes_of "the line has no word"
+words_text (Some (reason.UnknownWord p)) ws = named (bytes_of "unknown word ") p ws
+words_text (Some (reason.Missing p k)) ws = missing k
+words_text (Some (reason.NotNumber p k)) ws = wanted p ws (bytes_of " is not a number: expected ") k
+words_text (Some (reason.OutOfRange p k)) ws = wanted p ws (bytes_of " is out of range: expected ") k
+words_text (Some (reason.NotListed p k)) ws = wanted p ws (bytes_of " is not known here: expected ") k
+words_text (Some (reason.Extra p)) ws = named (bytes_of "extra argument ") p ws
+words_text (Some reason.BeforeOpen) ws = bytes_of "no open has succeeded yet"
+words_text (Some reason.SecondOpen) ws = bytes_of "an open has succeeded already"
+words_text (Some reason.BeforeClock) ws = bytes_of "no clock new has succeeded yet"
 
-unfoldable pub reason_text : List ℕ → Reason → List ℕ
+unfoldable pub reason_text : List ℕ → Option Reason → List ℕ
 reason_text s r = words_text r (words_of (take (text_length s) s))

@@ -110,11 +110,13 @@ fn put_missing(text: &mut Text, kind: u8)
 }
 
 // The reason of a line without its carriage return.
-fn put_text(text: &mut Text, line: &[u8], reason: Reason)
+fn put_text(text: &mut Text, line: &[u8], reason: Option<Reason>)
     ensures { Prints text.old text.new (words_text reason (words_at line.now 0)) }
 {
+    let Some(reason) = reason else {
+        return text.push_bytes(b"the line can be read");
+    };
     match reason {
-        Reason::Fine => text.push_bytes(b"the line can be read"),
         Reason::TooLong => text.push_bytes(b"the line has more than 4096 bytes"),
         Reason::NoWord => text.push_bytes(b"the line has no word"),
         Reason::UnknownWord(place) => put_named(text, b"unknown word ", line, place),
@@ -136,7 +138,7 @@ fn put_text(text: &mut Text, line: &[u8], reason: Reason)
 }
 
 // The reason of a line, which comes without its newline.
-pub fn put_reason(text: &mut Text, line: &[u8], reason: Reason)
+pub fn put_reason(text: &mut Text, line: &[u8], reason: Option<Reason>)
     ensures { Prints text.old text.new (reason_text line.now reason) }
 {
     let n = script::text_length(line);

@@ -28,10 +28,7 @@ fn signed(is_less: u64, n: u64) -> i64 {
 fn period(line: &[u8]) -> i32 {
     let second = lex::behind(line, lex::behind(line, 0));
     let fourth = lex::behind(line, lex::behind(line, second));
-    match lex::signed_at(line, fourth) {
-        lex::Signed::Unread => 0,
-        lex::Signed::Read(n) => n,
-    }
+    lex::signed_at(line, fourth).unwrap_or(0)
 }
 
 fn open(w: &mut [u64], out: &mut [u64], n: &[u64]) -> u64 {

@@ -38,9 +38,8 @@ unfolding begun
 either-begun w out s true c p = refl
 either-begun w out s false c p = refl
 
-no-clock : (w out list : List ℕ) (s : Session) (c : Command) → NoClock c → answers_with s out (on_words w (asked list c)) ≡ gone_on w out s (asked list c)
+no-clock : (w out list : List ℕ) (s : Session) (c : Command) → NoClock c → answers_with s out (on_words w (asked list (Some c))) ≡ gone_on w out s (asked list (Some c))
 unfolding asked gone_on
-no-clock w out list s command.Unread q = refl
 no-clock w out list s (command.Open p) q = refl
 no-clock w out list s (command.Event key manual signaled) q = refl
 no-clock w out list s (command.Create p) q = refl
@@ -90,9 +89,8 @@ no-clock w out list s command.ClockTick64 q = absurd (q.tick64 refl)
 no-clock w out list s command.ClockTsc q = absurd (q.tsc refl)
 
 -- it is no `open`
-pub no-open : (w out list : List ℕ) (s : Session) (c : Command) → ((p : ℕ) → c ≡ command.Open p → ⊥) → performed_as (unchanged s (answer.Refused 28)) w out ≡ begun w out s (asked list c)
+pub no-open : (w out list : List ℕ) (s : Session) (c : Command) → ((p : ℕ) → c ≡ command.Open p → ⊥) → performed_as (unchanged s (answer.Refused 28)) w out ≡ begun w out s (asked list (Some c))
 unfolding asked begun
-no-open w out list s command.Unread q = refl
 no-open w out list s (command.Open p) q = absurd (q p refl)
 no-open w out list s (command.Event key manual signaled) q = refl
 no-open w out list s (command.Create p) q = refl
@@ -166,5 +164,5 @@ same_step w out x y e = ap (λ (z : Step). performed_as z w out) e
 
 -- a command that a match leaves over is one on the words, or none at all
 pub goes_on : (w out list : List ℕ) (s : Session) (c : Command) → NoClock c
-    → (after : List ℕ) (a : Answer) → outcome a after ≡ on_words w (asked list c) → performed_as (unchanged s a) after out ≡ gone_on w out s (asked list c)
+    → (after : List ℕ) (a : Answer) → outcome a after ≡ on_words w (asked list (Some c)) → performed_as (unchanged s a) after out ≡ gone_on w out s (asked list (Some c))
 goes_on w out list s c q after a e = ap (answers_with s out) e ∙ no-clock w out list s c q

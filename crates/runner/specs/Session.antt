@@ -1,5 +1,5 @@
 -- What the command of a line does to a bench: the scheduler in its words, and a clock.
-use Rattle.std.specs.Prelude.{ℕ, Bool, true, false, cond, List, length, pos, Result, Ok, Err, ⊤}
+use Rattle.std.specs.Prelude.{ℕ, Bool, true, false, cond, List, length, pos, Option, Result, Ok, Err, ⊤}
 use Rattle.answers.specs.declared.Answer.{Answer}
 use Rattle.answers.specs.declared.Answer.TheVariants as answer
 use Rattle.answers.specs.Outcome.{Outcome}
@@ -122,5 +122,5 @@ begun w out s (moves f) = performed_as (unchanged s (answer.Refused 28)) w out
 begun w out s (asks f) = performed_as (unchanged s (answer.Refused 28)) w out
 
 -- what a command does
-unfoldable pub performed : List ℕ → List ℕ → List ℕ → Session → Command → Performed
+unfoldable pub performed : List ℕ → List ℕ → List ℕ → Session → Option Command → Performed
 performed w out list s c = cond s.opened (gone_on w out s (asked list c)) (begun w out s (asked list c))

@@ -1,5 +1,5 @@
 // What a command does to a bench: the scheduler in its words, and a clock.
-ghost use Rattle.std.specs.Prelude.{◌≡◌};
+ghost use Rattle.std.specs.Prelude.{◌≡◌, Some};
 ghost use Rattle.commands.specs.Commands.{asked};
 ghost use Rattle.runner.specs.Session as spec;
 
@@ -123,7 +123,7 @@ fn told(s: Session, r: Result<u64, ClockError>) -> Step
 
 // A command after an `open` has been accepted: another `open` is refused with 28.
 fn go_on(w: &mut [u64], waiting: &mut [u64], list: &[u64], s: Session, c: Command) -> Step
-    ensures { spec.performed_as result w.new waiting.new ≡ spec.gone_on w.old waiting.old s (asked list.now c) }
+    ensures { spec.performed_as result w.new waiting.new ≡ spec.gone_on w.old waiting.old s (asked list.now (Some c)) }
 {
     let now = s.clock;
     match c {
@@ -173,14 +173,17 @@ fn begin(w: &mut [u64], s: Session, priority: u64) -> Step
     }
 }
 
-// Before an `open` has been accepted every other line is refused with 28.
-pub fn perform(w: &mut [u64], waiting: &mut [u64], list: &[u64], s: Session, c: Command) -> Step
+// A line that cannot be read is refused with 28, and before an `open` has been accepted every other line is refused with 28.
+pub fn perform(w: &mut [u64], waiting: &mut [u64], list: &[u64], s: Session, c: Option<Command>) -> Step
     ensures { spec.performed_as result w.new waiting.new ≡ spec.performed w.old waiting.old list.now s c }
 {
+    let Some(command) = c else {
+        return unchanged(s, Answer::Refused(28));
+    };
     if s.opened {
-        return go_on(w, waiting, list, s, c);
+        return go_on(w, waiting, list, s, command);
     }
-    if let Command::Open(p) = c {
+    if let Command::Open(p) = command {
         return begin(w, s, p);
     }
     unchanged(s, Answer::Refused(28))

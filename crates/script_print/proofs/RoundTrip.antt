@@ -7,7 +7,7 @@ use native.Mathlib.Nat.{mod-lt, mod-eq_of_lt, div-add-mod', div-lt_iff_lt-mul, p
 use native.Mathlib.Omega.{arith}
 use borrow.Author.Tests.{le-leb, ltb-true}
 use lib.Dec.{ltb, lit<}
-use Rattle.script_lex.specs.declared.lex.Number.TheVariants as number
+use Rattle.std.specs.Prelude.{Some}
 use Rattle.script_lex.specs.Numbers.{is_digit, with_digit, all_digits, value, number_from, number_of}
 use Rattle.script_print.specs.Print.{digit_of, decimal_in, decimal}
 use Rattle.script_lex.proofs.Cases.{either}
@@ -53,7 +53,7 @@ some-digit : (limit m n : ℕ) → number_of limit (decimal_in (suc m) n) ≡ nu
 unfolding decimal_in
 some-digit limit m n = either (ltb n 10) (λ e. simp e (number-of limit [] (digit_of n))) (λ e. simp e (number-of limit (decimal_in m (n / 10)) (digit_of n)))
 
-pub round_trip : (limit n : ℕ) → n ≤ limit → n < 2 ^ 64 → number_of limit (decimal n) ≡ number.Read n
+pub round_trip : (limit n : ℕ) → n ≤ limit → n < 2 ^ 64 → number_of limit (decimal n) ≡ Some n
 unfolding number_from
 round_trip limit n h l =
     let k : n < 10 ^ 20 = omega arith in

@@ -1,9 +1,9 @@
 use Rattle.reason_text.specs.Texts.{words_text}
 use Rattle.reason_text.proofs.put_text.Goals as goal
 
-pub returns-in-Fine : goal.returns-in-Fine
+pub returns-in_default : goal.returns-in_default
 unfolding words_text
-returns-in-Fine c = simp c.in-Fine.is c.push_bytes.ensures
+returns-in_default c = simp c.in_default.is c.push_bytes.ensures
 
 pub returns-in-TooLong : goal.returns-in-TooLong
 unfolding words_text
