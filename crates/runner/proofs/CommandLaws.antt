@@ -1,6 +1,8 @@
 -- What a command that a match leaves over asks for.
 use Rattle.std.proofs.Common.{◌≡◌, ℕ, Bool, true, false, cond, ltb, List, [], ◌∷◌, length}
 use mathlib.Core.Path.{refl, ap, ◌∙◌}
+use Rattle.std.specs.Prelude.{Some, None}
+use Rattle.script_lex.proofs.Cases.{either}
 use lib.IntN.{ℤ}
 use Rattle.answers.specs.declared.Answer.{Answer}
 use Rattle.answers.specs.declared.Answer.TheVariants as answer
@@ -12,7 +14,7 @@ use Rattle.runner.specs.declared.session.Step.{Step}
 use Rattle.model.specs.Call.{Call}
 use Rattle.calls.specs.Called.{meaning}
 use Rattle.commands.specs.Commands.{Shown, nothing, calls, asked, on_words}
-use Rattle.runner.specs.Session.{gone_on, begun, accepts, answers_with, performed_as, unchanged}
+use Rattle.runner.specs.Session.{performed, gone_on, begun, accepts, answers_with, performed_as, unchanged}
 
 -- it is no dispatch and asks nothing of the clock
 pub record NoClock (c : Command) : Type 0 where
@@ -138,6 +140,11 @@ no-open w out list s command.ClockObserve q = refl
 no-open w out list s command.ClockQpc q = refl
 no-open w out list s command.ClockTick64 q = refl
 no-open w out list s command.ClockTsc q = refl
+
+-- a line that cannot be read
+pub unread-line : (w out list : List ℕ) (s : Session) → performed_as (unchanged s (answer.Refused 28)) w out ≡ performed w out list s None
+unfolding performed asked gone_on begun on_words
+unread-line w out list s = either s.opened (λ e. simp e) (λ e. simp e)
 
 -- it is no success of an `open`
 pub not_done : (a : Answer) → (a ≡ answer.Done → ⊥) → false ≡ accepts a
