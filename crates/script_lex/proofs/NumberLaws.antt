@@ -3,16 +3,17 @@ use mathlib.Core.Path.{◌≡◌, refl, sym, ap, ◌∙◌}
 use mathlib.Core.Bool.{Bool, true, false, false≢true, ◌&&◌}
 use mathlib.Core.List.{List, [], ◌∷◌}
 use Rattle.std.specs.Prelude.{Option, Some, None}
-use Prim.Native.Nat.{ℕ, ◌+◌, ◌-◌, ◌*◌, ◌^◌, ◌≤◌, ◌<◌}
+use Prim.Native.Nat.{ℕ, suc, ◌+◌, ◌-◌, ◌*◌, ◌^◌, ◌≤◌, ◌<◌}
 use native.Mathlib.Omega.{arith}
 use borrow.Author.Tests.{leb-true, leb-false, le-leb, lt-leb, eq-eqb, ne_eqb}
-use lib.Dec.{leb}
-use lib.ListN.{length, get_or}
-use Rattle.script_lex.specs.Words.{part, first, others, none}
+use lib.Dec.{eqb, leb}
+use lib.ListN.{length, get_or, drop, drop_of_length-le}
+use lib.Seq.{drop-cons}
+use native.Mathlib.Numerals.{add-one}
+use Rattle.script_lex.specs.Words.{first, others, none}
 use Rattle.script_lex.specs.Arguments.{one_of, two_of, join_two}
 use Rattle.script_lex.specs.Numbers.{is_digit, with_digit, takes, all_digits, value, number_from, number_of, plus, minus, signed_of}
 use Rattle.script_lex.proofs.Cases.{either}
-use Rattle.script_lex.proofs.WordLaws.{part-cons, part-empty}
 
 -- ---- whether a digit is taken. 1844674407370955161 is 2^64 - 1 div 10
 
@@ -69,24 +70,26 @@ module _ (limit n b : ℕ) (w : List ℕ) where
       simp (d, lt-leb (value (n * 10 + (b - 48)) w) limit (omega arith), and-false (all_digits w)))
       (λ d. simp d)
 
-module _ (limit n at to : ℕ) (s : List ℕ) where
-  pub number-end : to ≤ at → n ≤ limit → number_from limit n (part at to s) ≡ Some n
+module _ (limit n i : ℕ) (w : List ℕ) where
+  pub number-end : length w ≤ i → n ≤ limit → number_from limit n (drop i w) ≡ Some n
   unfolding number_from all_digits value
-  number-end h l = simp (part-empty at to s h, le-leb _ _ l)
+  number-end h l = simp (drop_of_length-le w h, le-leb _ _ l)
 
-  pub number-stop : at < to → to ≤ length s → takes limit n (get_or s at 0) ≡ false → number_from limit n (part at to s) ≡ None
-  number-stop h k e = simp (part-cons at to s h k) (stop limit n (get_or s at 0) (part (at + 1) to s) e)
+  pub number-stop : i < length w → takes limit n (get_or w i 0) ≡ false → number_from limit n (drop i w) ≡ None
+  number-stop h e = simp (drop-cons w i 0 h) (stop limit n (get_or w i 0) (drop (suc i) w) e)
 
-  pub number_more : at < to → to ≤ length s → takes limit n (get_or s at 0) ≡ true → number_from limit n (part at to s) ≡ number_from limit (with_digit n (get_or s at 0)) (part (at + 1) to s)
-  number_more h k e = simp (part-cons at to s h k) (more limit n (get_or s at 0) (part (at + 1) to s) e)
+  pub number_more : i < length w → takes limit n (get_or w i 0) ≡ true → number_from limit n (drop i w) ≡ number_from limit (with_digit n (get_or w i 0)) (drop (i + 1) w)
+  number_more h e = simp (drop-cons w i 0 h, add-one i) (more limit n (get_or w i 0) (drop (suc i) w) e)
 
-pub number-none : (limit from to : ℕ) (s : List ℕ) → to ≤ from → number_of limit (part from to s) ≡ None
+pub number-none : (limit : ℕ) (w : List ℕ) → eqb (length w) 0 ≡ true → number_of limit w ≡ None
 unfolding number_of
-number-none limit from to s h = simp (part-empty from to s h)
+number-none limit [] e = refl
+number-none limit (b ∷ w) e = absurd (false≢true (sym (ne_eqb (suc (length w)) 0 (λ z. omega arith)) ∙ e))
 
-pub number-some : (limit from to : ℕ) (s : List ℕ) → from < to → to ≤ length s → number_of limit (part from to s) ≡ number_from limit 0 (part from to s)
+pub number-some : (limit : ℕ) (w : List ℕ) → eqb (length w) 0 ≡ false → number_of limit w ≡ number_from limit 0 w
 unfolding number_of
-number-some limit from to s h k = simp (part-cons from to s h k)
+number-some limit [] e = absurd (false≢true (sym e))
+number-some limit (b ∷ w) e = refl
 
 and_right : (x y : Bool) → (x && y) ≡ true → y ≡ true
 and_right true y e = e
@@ -103,18 +106,18 @@ within limit n (b ∷ w) e =
 
 -- ---- a signed number, by its first byte
 
-module _ (from to : ℕ) (s : List ℕ) (h : from < to) (k : to ≤ length s) where
-  pub signed-minus : get_or s from 0 ≡ 45 → signed_of (part from to s) ≡ minus (number_of 2147483648 (part (from + 1) to s))
-  unfolding signed_of
-  signed-minus e = simp (part-cons from to s h k, eq-eqb _ _ e)
+pub signed-minus : (w : List ℕ) → get_or w 0 0 ≡ 45 → signed_of w ≡ minus (number_of 2147483648 (drop 1 w))
+unfolding signed_of
+signed-minus w e = simp (eq-eqb _ _ e)
 
-  pub signed-plus : (get_or s from 0 ≡ 45 → ⊥) → signed_of (part from to s) ≡ plus (number_of 2147483647 (part from to s))
-  unfolding signed_of
-  signed-plus n = simp (part-cons from to s h k, ne_eqb _ _ n)
+pub signed-plus : (w : List ℕ) → (get_or w 0 0 ≡ 45 → ⊥) → signed_of w ≡ plus (number_of 2147483647 w)
+unfolding signed_of
+signed-plus w n = simp (ne_eqb _ _ n)
 
-pub signed-none : (from to : ℕ) (s : List ℕ) → to ≤ from → signed_of (part from to s) ≡ None
+pub signed-none : (w : List ℕ) → eqb (length w) 0 ≡ true → signed_of w ≡ None
 unfolding signed_of number_of plus
-signed-none from to s h = simp (part-empty from to s h)
+signed-none [] e = refl
+signed-none (b ∷ w) e = absurd (false≢true (sym (ne_eqb (suc (length w)) 0 (λ z. omega arith)) ∙ e))
 
 -- ---- the same of arguments
 

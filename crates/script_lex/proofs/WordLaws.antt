@@ -9,6 +9,7 @@ use borrow.Author.Tests.{eq-eqb, ne_eqb, leb-true, leb-false}
 use lib.Dec.{eqb, leb}
 use lib.ListN.{length, get_or, take, drop, drop_of_length-le, length-drop}
 use lib.Seq.{drop-cons, drop-drop}
+use lib.Pointwise.{pointwise}
 use Rattle.script_lex.specs.Words.{blank, grown, pieces, full, words_of, first, others, none, same, blanks, letters, part}
 use Rattle.script_lex.proofs.Cases.{either}
 
@@ -153,28 +154,13 @@ part-cons i to s h k =
     let l : i < length s = omega arith in
     simp (add-one i, e, drop-cons s i 0 l)
 
-module _ (i to : ℕ) (s : List ℕ) (j : ℕ) (name : List ℕ) where
-  pub same_end : to ≤ i → leb (length name) j ≡ same (part i to s) (drop j name)
-  unfolding same
-  same_end h =
-      either (leb (length name) j) (λ t. t ∙ simp (part-empty i to s h, drop_of_length-le name (leb-true (length name) j t))) (λ t. t ∙ simp (part-empty i to s h, drop-cons name j 0 (leb-false (length name) j t)))
-
-  pub same-short : i < to → to ≤ length s → length name ≤ j → same (part i to s) (drop j name) ≡ false
-  unfolding same
-  same-short h k l = simp (part-cons i to s h k, drop_of_length-le name l)
-
-  pub same_stop : i < to → to ≤ length s → j < length name → (get_or s i 0 ≡ get_or name j 0 → ⊥) → same (part i to s) (drop j name) ≡ false
-  unfolding same
-  same_stop h k l n = simp (part-cons i to s h k, drop-cons name j 0 l, ne_eqb _ _ n)
-
-  pub same_more : i < to → to ≤ length s → j < length name → get_or s i 0 ≡ get_or name j 0 → same (part i to s) (drop j name) ≡ same (part (i + 1) to s) (drop (j + 1) name)
-  unfolding same
-  same_more h k l e = simp (part-cons i to s h k, drop-cons name j 0 l, eq-eqb _ _ e, add-one j)
-
-pub same_none : (name : List ℕ) → eqb (length name) 0 ≡ same [] name
+-- the code's equality of words
+pub equal-same : (a b : List ℕ) → pointwise eqb a b ≡ same a b
 unfolding same
-same_none [] = refl
-same_none (b ∷ name) = ne_eqb (suc (length name)) 0 (λ e. omega arith)
+equal-same [] [] = refl
+equal-same [] (y ∷ b) = refl
+equal-same (x ∷ a) [] = refl
+equal-same (x ∷ a) (y ∷ b) = either (eqb x y) (λ e. simp e (equal-same a b)) (λ e. simp e)
 
 -- ---- a line of 4,096 bytes has at most 2,048 words
 

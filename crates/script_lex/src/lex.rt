@@ -1,43 +1,37 @@
 // The words of a line, and the numbers that they tell. A place in a line stands for the words from there on.
-ghost use Rattle.std.specs.Prelude.{◌≡◌, true, ◌+◌, ◌≤◌, pos, neg_ℤ, length, drop};
-ghost use Rattle.script_lex.specs.Words.{blank, blanks, letters, part, words_at, first, others, none, same};
+ghost use Rattle.std.specs.Prelude.{◌≡◌, true, ◌+◌, ◌≤◌, pos, neg_ℤ, drop};
+ghost use Rattle.script_lex.specs.Words.{blank, blanks, letters, words_at, first, others, none, same};
 ghost use Rattle.script_lex.specs.Numbers.{takes, with_digit, number_of, plus, minus, signed_of};
 
+#[tactic(auto, unfolding(crate::specs::Words::blank))]
 fn is_blank(b: u8) -> bool
     ensures { result ≡ blank b }
 {
-    if b == b' ' {
-        return true;
-    }
-    b == b'\t'
+    b == b' ' || b == b'\t'
 }
 
 // The first place from `from` on where no blank stands.
 pub fn word_start(line: &[u8], from: usize) -> usize
     ensures { result ≡ from + blanks (drop from line.now) }
 {
-    let mut at = from;
-    while at < line.len() {
+    for at in from..line.len() {
         if !is_blank(line[at]) {
             return at;
         }
-        at += 1;
     }
-    at
+    from.max(line.len())
 }
 
 // The first place from `from` on where a blank stands, or the line's end.
 pub fn word_end(line: &[u8], from: usize) -> usize
     ensures { result ≡ from + letters (drop from line.now) }
 {
-    let mut at = from;
-    while at < line.len() {
+    for at in from..line.len() {
         if is_blank(line[at]) {
             return at;
         }
-        at += 1;
     }
-    at
+    from.max(line.len())
 }
 
 // The place behind the first word.
@@ -54,36 +48,23 @@ pub fn is_end(line: &[u8], at: usize) -> bool
     line.len() <= word_start(line, at)
 }
 
-// Whether the bytes from `from` to `to` are those of `name`.
-fn is_same(line: &[u8], from: usize, to: usize, name: &[u8]) -> bool
-    requires { (from ≤ to) × (to ≤ length line.now) }
-    ensures { result ≡ same (part from to line.now) name.now }
+// The first word, an empty one where there is none.
+pub fn word(line: &[u8], at: usize) -> &[u8]
+    ensures { result.now ≡ first (words_at line.now at) }
 {
-    let mut i = from;
-    let mut j: usize = 0;
-    while i < to {
-        if name.len() <= j {
-            return false;
-        }
-        if line[i] != name[j] {
-            return false;
-        }
-        i += 1;
-        j += 1;
+    let from = word_start(line, at);
+    let to = word_end(line, from);
+    if line.len() < to {
+        return &[];
     }
-    name.len() <= j
+    &line[from..to]
 }
 
 // Whether the first word is `name`.
 pub fn is_word(line: &[u8], at: usize, name: &[u8]) -> bool
     ensures { result ≡ same (first (words_at line.now at)) name.now }
 {
-    let from = word_start(line, at);
-    let to = word_end(line, from);
-    if line.len() < to {
-        return name.len() == 0;
-    }
-    is_same(line, from, to, name)
+    word(line, at) == name
 }
 
 // Whether `b` is a digit, and `n` with it behind is within the limit.
@@ -114,23 +95,19 @@ fn with_digit(limit: u64, n: u64, b: u8) -> u64
     n * 10 + ((b - b'0') as u64)
 }
 
-// The number whose digits stand from `from` to `to`, if it is within the limit.
-fn number_in(line: &[u8], from: usize, to: usize, limit: u64) -> Option<u64>
-    requires { (from ≤ to) × (to ≤ length line.now) }
-    ensures { result ≡ number_of limit (part from to line.now) }
+// The number whose digits a word has, if it is within the limit.
+fn number_in(word: &[u8], limit: u64) -> Option<u64>
+    ensures { result ≡ number_of limit word.now }
 {
-    if to <= from {
+    if word.is_empty() {
         return None;
     }
-    let mut at = from;
     let mut n: u64 = 0;
-    while at < to {
-        let b = line[at];
+    for &b in word {
         if !takes(limit, n, b) {
             return None;
         }
         n = with_digit(limit, n, b);
-        at += 1;
     }
     Some(n)
 }
@@ -139,12 +116,7 @@ fn number_in(line: &[u8], from: usize, to: usize, limit: u64) -> Option<u64>
 pub fn number_at(line: &[u8], at: usize, limit: u64) -> Option<u64>
     ensures { result ≡ number_of limit (first (words_at line.now at)) }
 {
-    let from = word_start(line, at);
-    let to = word_end(line, from);
-    if line.len() < to {
-        return None;
-    }
-    number_in(line, from, to, limit)
+    number_in(word(line, at), limit)
 }
 
 // The number less than 0 by `n`.
@@ -155,19 +127,17 @@ fn negated(n: u64) -> i32
     (0 - (n as i64)) as i32
 }
 
-fn minus_in(line: &[u8], from: usize, to: usize) -> Option<i32>
-    requires { (from ≤ to) × (to ≤ length line.now) }
-    ensures { result ≡ minus (number_of 2147483648 (part from to line.now)) }
+fn minus_in(digits: &[u8]) -> Option<i32>
+    ensures { result ≡ minus (number_of 2147483648 digits.now) }
 {
-    let n = number_in(line, from, to, 2_147_483_648)?;
+    let n = number_in(digits, 2_147_483_648)?;
     Some(negated(n))
 }
 
-fn plus_in(line: &[u8], from: usize, to: usize) -> Option<i32>
-    requires { (from ≤ to) × (to ≤ length line.now) }
-    ensures { result ≡ plus (number_of 2147483647 (part from to line.now)) }
+fn plus_in(digits: &[u8]) -> Option<i32>
+    ensures { result ≡ plus (number_of 2147483647 digits.now) }
 {
-    let n = number_in(line, from, to, 2_147_483_647)?;
+    let n = number_in(digits, 2_147_483_647)?;
     Some(n as i32)
 }
 
@@ -175,16 +145,12 @@ fn plus_in(line: &[u8], from: usize, to: usize) -> Option<i32>
 pub fn signed_at(line: &[u8], at: usize) -> Option<i32>
     ensures { result ≡ signed_of (first (words_at line.now at)) }
 {
-    let from = word_start(line, at);
-    let to = word_end(line, from);
-    if line.len() < to {
+    let word = word(line, at);
+    if word.is_empty() {
         return None;
     }
-    if to <= from {
-        return None;
+    if word[0] == b'-' {
+        return minus_in(&word[1..]);
     }
-    if line[from] == b'-' {
-        return minus_in(line, from + 1, to);
-    }
-    plus_in(line, from, to)
+    plus_in(word)
 }

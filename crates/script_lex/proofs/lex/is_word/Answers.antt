@@ -1,8 +1,6 @@
-use Rattle.script_lex.proofs.WordLaws.{first-is, out-is, same_none}
+use mathlib.Core.Path.{◌∙◌}
+use Rattle.script_lex.proofs.WordLaws.{equal-same}
 use Rattle.script_lex.proofs.lex.is_word.Goals as goal
 
-pub returns-then-line-to : goal.returns-then-line-to
-returns-then-line-to c = simp (out-is c.args.line.now c.args.at c.word_start-from.result c.word_end-to.result c.word_start-from.ensures c.word_end-to.ensures c.if-line-to.true) (same_none c.args.name.now)
-
 pub returns : goal.returns
-returns c = simp (first-is c.args.line.now c.args.at c.word_start-from.result c.word_end-to.result c.word_start-from.ensures c.word_end-to.ensures) c.is_same.ensures
+returns c = simp (← c.word.ensures) (c.eq.ensures ∙ equal-same _ _)
