@@ -6,12 +6,15 @@ use Prim.Native.Nat.{ℕ, ◌+◌, ◌≤◌, ◌<◌}
 use native.Mathlib.Omega.{arith}
 use lib.ListN.{length, get_or, drop, length-drop}
 use lib.Seq.{drop-cons}
+use lib.Dec.{eqb}
+use Rattle.reasons.specs.declared.Reason.TheVariants as reason
+use Rattle.reasons.proofs.WordLaws.{not-empty}
 use Rattle.std.specs.Prelude.{Option, Some, None}
 use Rattle.reasons.specs.declared.Reason.{Reason}
 use Rattle.script_lex.specs.Text.{bytes_of}
 use Rattle.script_lex.specs.Names as name
-use Rattle.script_lex.specs.Words.{blank, grown, pieces, full, words_of, first, others, none, part}
-use Rattle.script_lex.proofs.WordLaws.{part-cons, words-few}
+use Rattle.script_lex.specs.Words.{blank, grown, pieces, full, words_of, first, others, none}
+use Rattle.script_lex.proofs.WordLaws.{words-few}
 use Rattle.reasons.specs.Grammar.{grammar, clock_grammar}
 use Rattle.reasons.specs.Reasons.{is_fine, continued, word_reason, next_of, kind_at, end_reason, reason_from, form_reason}
 
@@ -32,11 +35,16 @@ unfolding none reason_from first others continued
 reason-more form i p [] e f = absurd (false≢true (sym e))
 reason-more form i p (w ∷ ws) e f = simp f
 
--- a form that stands in a table from `from` to `to`
-pub form-reason : (from to : ℕ) (t : List ℕ) (p : ℕ) (ws : List (List ℕ)) → from < to → to ≤ length t
-    → form_reason (part from to t) p ws ≡ reason_from (part from to t) 0 (p + 1) ws
+-- a form that a word names, and none
+pub form-none : (f : List ℕ) (p : ℕ) (ws : List (List ℕ)) → eqb (length f) 0 ≡ true → form_reason f p ws ≡ Some (reason.UnknownWord p)
 unfolding form_reason
-form-reason from to t p ws h k = simp (part-cons from to t h k)
+form-none [] p ws e = refl
+form-none (k ∷ f) p ws e = absurd (not-empty f k e)
+
+pub form-reason : (f : List ℕ) (p : ℕ) (ws : List (List ℕ)) → eqb (length f) 0 ≡ false → form_reason f p ws ≡ reason_from f 0 (p + 1) ws
+unfolding form_reason
+form-reason [] p ws e = absurd (false≢true (sym e))
+form-reason (k ∷ f) p ws e = refl
 
 pub default : (l : List ℕ) (i d e : ℕ) → i < length l → get_or l i d ≡ get_or l i e
 default l i d e h = cc (drop-cons l i d h, drop-cons l i e h)

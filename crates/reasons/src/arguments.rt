@@ -1,29 +1,25 @@
 // The words behind a line's name, held to their kinds.
 ghost use Rattle.std.specs.Prelude.{◌≡◌, ◌+◌, ◌≤◌, length, get_or};
-ghost use Rattle.script_lex.specs.Words.{words_at, first, part};
+ghost use Rattle.script_lex.specs.Words.{words_at, first};
 ghost use Rattle.reasons.specs.Reasons.{digits, is_numeral, unread_number, number_reason, signed_reason, or_number, list_reason, choice_reason, word_reason, next_of, end_reason, reason_from};
 
 use super::{Reason, table};
 use script_lex::lex;
 
-// Whether the bytes from `from` to `to` are digits, one or more.
-fn are_digits(line: &[u8], from: usize, to: usize) -> bool
-    requires { (from ≤ to) × (to ≤ length line.now) }
-    ensures { result ≡ digits (part from to line.now) }
+// Whether a word is digits, one or more.
+fn are_digits(word: &[u8]) -> bool
+    ensures { result ≡ digits word.now }
 {
-    if to <= from {
+    if word.is_empty() {
         return false;
     }
-    let mut at = from;
-    while at < to {
-        let b = line[at];
+    for &b in word {
         if b < b'0' {
             return false;
         }
         if b'9' < b {
             return false;
         }
-        at += 1;
     }
     true
 }
@@ -32,18 +28,14 @@ fn are_digits(line: &[u8], from: usize, to: usize) -> bool
 fn is_numeral(line: &[u8], at: usize) -> bool
     ensures { result ≡ is_numeral (first (words_at line.now at)) }
 {
-    let from = lex::word_start(line, at);
-    let to = lex::word_end(line, from);
-    if line.len() < to {
+    let word = lex::word(line, at);
+    if word.is_empty() {
         return false;
     }
-    if to <= from {
-        return false;
+    if word[0] == b'-' {
+        return are_digits(&word[1..]);
     }
-    if line[from] == b'-' {
-        return are_digits(line, from + 1, to);
-    }
-    are_digits(line, from, to)
+    are_digits(word)
 }
 
 // The first word should tell a number, and does not.

@@ -33,17 +33,11 @@ fn named_reason(line: &[u8], at: usize, place: usize, table: &[u8]) -> Option<Re
     requires { (length line.now ≤ 4096) × (place ≤ 1) }
     ensures { result ≡ named_reason (words_at table.now 0) place (words_at line.now at) }
 {
-    let row = table::form_at(line, at, table);
-    let from = lex::word_start(table, row);
-    let to = lex::word_end(table, from);
-    if table.len() < to {
+    let form = lex::word(table, table::form_at(line, at, table));
+    if form.is_empty() {
         return Some(Reason::UnknownWord(place));
     }
-    if to <= from {
-        return Some(Reason::UnknownWord(place));
-    }
-    let rest = lex::behind(line, at);
-    arguments::reason_from(line, rest, place + 1, &table[from..to])
+    arguments::reason_from(line, lex::behind(line, at), place + 1, form)
 }
 
 // The words behind `clock`.

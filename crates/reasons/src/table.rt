@@ -9,12 +9,7 @@ use script_lex::lex;
 fn is_same_word(line: &[u8], at: usize, table: &[u8], i: usize) -> bool
     ensures { result ≡ same (first (words_at line.now at)) (first (words_at table.now i)) }
 {
-    let from = lex::word_start(table, i);
-    let to = lex::word_end(table, from);
-    if table.len() < to {
-        return lex::is_word(line, at, b"");
-    }
-    lex::is_word(line, at, &table[from..to])
+    lex::is_word(line, at, lex::word(table, i))
 }
 
 // Whether the first word is one of the list.
