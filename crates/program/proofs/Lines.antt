@@ -1,11 +1,11 @@
 -- A line that is read means a call whose arguments fit their types.
-use Prim.Native.Nat.{ℕ, zero, suc, ◌+◌, ◌-◌, ◌^◌, ◌%◌, ◌≤◌}
+use Prim.Native.Nat.{ℕ, zero, suc, ◌+◌, ◌%◌, ◌≤◌}
 use mathlib.Core.List.{List, [], ◌∷◌}
 use mathlib.Core.Bool.{Bool, true, false, cond}
 use mathlib.Core.Path.{◌≡◌, refl}
 use native.Mathlib.Omega.{arith}
 use lib.Dec.{eqb, ltb}
-use lib.IntN.{ℤ, pos, negsuc, neg_ℤ}
+use lib.IntN.{ℤ, pos, neg_ℤ}
 use Rattle.std.specs.Prelude.{Option, Some, None}
 use lib.ListN.{length, get_or, set, take, drop}
 use Rattle.arch.specs.declared.Architecture.{Architecture}
@@ -26,7 +26,7 @@ use Rattle.script.specs.Wait as wait
 use Rattle.script.specs.Wait.{Taken, taken, Paired, paired, item_of, kind_of, pairs_of, is_read, wait_command, with_irql, wait_from, with_deadline, wait_until, wait_line}
 use Rattle.script.specs.Line.{text_length, text_line, read_line}
 use Rattle.script_lex.proofs.NumberLaws.{within}
-use Rattle.model.specs.Fits.{U64, U64s, U64?, I32, BackingFits}
+use Rattle.model.specs.Fits.{U64s, U64?, I32, BackingFits}
 use Rattle.calls.specs.Called.{optional}
 use Rattle.model.specs.Call as call
 use Rattle.commands.specs.Commands.{nothing, calls, asked}

@@ -26,7 +26,6 @@ use Rattle.commands.specs.Commands.{Asked, asked}
 use Rattle.script_bytes.specs.Bytes.{most_part, most_answer, Lent, Machine, machine, begun, finished, kept, byte_taken, bytes_taken, from_start, part_taken, ended}
 use Rattle.model.specs.State.{State}
 use Rattle.model.specs.Fits.{U64s}
-use Rattle.model.specs.Answer.{Answer}
 use Rattle.call_answers.specs.Told.{told_with}
 use Rattle.program.specs.Script.{AskedFits, Logged, logged, log_answers}
 use Rattle.program.specs.Bytes.{cut, lines_of, joined, meant, meanings, answer_text, answer_line, text_from, gathered, writes}

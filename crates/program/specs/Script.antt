@@ -1,6 +1,6 @@
 -- What the log makes of a script: how the answer of a command's call is shown, and what a list of commands answers. The log is told the
 -- commands alone.
-use Rattle.std.specs.Prelude.{ℕ, ◌+◌, ◌*◌, List, [], ◌∷◌, Bool, cond, true, false, eqb}
+use Rattle.std.specs.Prelude.{ℕ, List, [], ◌∷◌, cond, eqb}
 use Rattle.model.specs.State.{State}
 use Rattle.model.specs.Answer.{Answer, Outcome}
 use Rattle.model.specs.Answer as log
