@@ -1,5 +1,6 @@
 -- Which call a command of a script makes, and what it does to the scheduler's words.
-use Rattle.std.specs.Prelude.{Bool, cond, List, ℕ, ltb, length, take, Option, Some, None, Result}
+use Rattle.std.specs.Prelude.{Bool, cond, List, ℕ, ltb, length, take, Option, Some, None}
+use Rattle.std.specs.Prelude as std
 use Rattle.answers.specs.declared.Answer.{Answer}
 use Rattle.answers.specs.declared.Answer.TheVariants as answer
 use Rattle.answers.specs.Outcome.{Outcome, outcome}
@@ -62,9 +63,9 @@ pub data Asked : Type 0 where
   bares : (c : Call) → Shown (meaning c) → Asked  -- a call whose answer is shown as a number alone
   works : ℕ → Asked  -- `start_dpc` of this address
   dispatching : Asked
-  creates : Result GuestClock ClockError → Asked  -- `clock new`
+  creates : std.Result GuestClock ClockError → Asked  -- `clock new`
   moves : (GuestClock → clock.Outcome) → Asked  -- a call that may change the clock
-  asks : (GuestClock → Result ℕ ClockError) → Asked  -- one that only reads it
+  asks : (GuestClock → std.Result ℕ ClockError) → Asked  -- one that only reads it
 
 -- the first `count` numbers of the list are the kinds and keys
 abbrev pub waiting : List ℕ → Bool → Bool → ℕ → ℕ → ℕ → Asked
