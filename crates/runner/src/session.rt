@@ -174,7 +174,13 @@ fn begin(w: &mut [u64], s: Session, priority: u64) -> Step
 }
 
 // A line that cannot be read is refused with 28, and before an `open` has been accepted every other line is refused with 28.
-pub fn perform(w: &mut [u64], waiting: &mut [u64], list: &[u64], s: Session, c: Option<Command>) -> Step
+pub fn perform(
+    w: &mut [u64],
+    waiting: &mut [u64],
+    list: &[u64],
+    s: Session,
+    c: Option<Command>,
+) -> Step
     ensures { spec.performed_as result w.new waiting.new ≡ spec.performed w.old waiting.old list.now s c }
 {
     let Some(command) = c else {
