@@ -1,3 +1,4 @@
+use mathlib.Core.Path.{refl}
 use Rattle.script_lex.specs.Text.{bytes_of}
 use Rattle.script_print.specs.Print.{printed}
 use Rattle.script_print.proofs.TextLaws.{prints-more}
@@ -11,4 +12,4 @@ returns-in-Refused c = simp c.in-Refused.is (prints-more c.args.text.now c.push_
 
 pub returns-in_default : goal.returns-in_default
 unfolding printed
-returns-in_default c = simp (no-beside c.args.line.now c.args.opened c.args.a c.in_default.not-Refused)
+returns-in_default c = simp (no-beside c.args.line.now c.args.opened c.args.a c.in_default.not-Refused) (refl, refl)
