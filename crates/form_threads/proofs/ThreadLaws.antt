@@ -3,12 +3,14 @@ use Prim.Native.Nat.{ℕ, zero, suc, ◌+◌, ◌-◌, ◌≤◌, ◌<◌}
 use native.Mathlib.Omega.{arith}
 use mathlib.Core.List.{List}
 use mathlib.Core.Bool.{Bool, cond, true, false}
-use mathlib.Core.Path.{◌≡◌, refl, ap, ◌∙◌}
+use mathlib.Core.Path.{◌≡◌, refl}
 use Rattle.words.specs.Layout as at
 use Rattle.threads.specs.Thread.{thread_count}
 use Rattle.threads.proofs.ThreadLaws.{count_small}
 use Rattle.form_threads.specs.Thread.{has_state, thread_passes, threads_in, threads_pass, one_if, state_count_in, state_count, threads_seen}
-use Rattle.form_threads.specs.declared.Seen.{Seen}
+use Rattle.form_threads.specs.declared.Counts.{Counts}
+use Rattle.std.specs.Prelude.{Option, Some, None}
+use Rattle.std.specs.Int.{from_bool}
 
 less_one : (k : ℕ) → suc k - 1 ≡ k
 less_one k = omega arith
@@ -60,42 +62,28 @@ counting-none w left state e = record {
   all = let q : state_count_in left w 1 state ≡ state_count_in (thread_count w) w 1 state = cc in omega arith;
 }
 
-pub counting-fits : (w : List ℕ) (id left n state one : ℕ) → 0 < left → one ≡ one_if w id state → Counting w id left n state → n + one ≤ at.most_threads
-counting-fits w id left n state one h e t = omega (arith, one-small w id state, t.few)
+-- the code counts `one` of the thread's test
+counted : (w : List ℕ) (id state : ℕ) (b : Bool) (one : ℕ) → b ≡ has_state w id state → one ≡ from_bool b → one ≡ one_if w id state
+unfolding one_if
+counted w id state true one e f = simp (← e) f
+counted w id state false one e f = simp (← e) f
 
-pub counting_more : (w : List ℕ) (id left n state one : ℕ) → 0 < left → one ≡ one_if w id state
+pub counting_more : (w : List ℕ) (id left n state : ℕ) (b : Bool) (one : ℕ) → 0 < left → b ≡ has_state w id state → one ≡ from_bool b
     → Counting w id left n state → Counting w (id + 1) (left - 1) (n + one) state
-counting_more w id left n state one h e t =
-    record { few = omega (arith, one-small w id state, t.few); all = omega (arith, count-more left w id state h, t.all) }
+counting_more w id left n state b one h e f t =
+    let q = counted w id state b one e f in
+    record { few = omega (arith, one-small w id state, q, t.few); all = omega (arith, count-more left w id state h, q, t.all) }
 
 pub counting-all : (w : List ℕ) (id left n state : ℕ) → left ≤ 0 → Counting w id left n state → n ≡ state_count w state
 counting-all w id left n state h t = omega (arith, count_none left w id state h, t.all)
 
 -- ---- what one pass says
 
-pub seen_none : (w : List ℕ) → threads_pass w ≡ false → ◌≡◌ {A = Seen} (record { pass = false; ready = 0; waiting = 0 }) (threads_seen w)
+pub seen_none : (w : List ℕ) → threads_pass w ≡ false → ◌≡◌ {A = Option Counts} None (threads_seen w)
 unfolding threads_seen
 seen_none w e = simp e
 
 pub seen-made : (w : List ℕ) (q r : ℕ) → threads_pass w ≡ true → q ≡ state_count w 2 → r ≡ state_count w 3
-    → ◌≡◌ {A = Seen} (record { pass = true; ready = q; waiting = r }) (threads_seen w)
+    → ◌≡◌ {A = Option Counts} (Some (record { ready = q; waiting = r })) (threads_seen w)
 unfolding threads_seen
 seen-made w q r e a b = simp e (cc)
-
-pub seen-pass : (w : List ℕ) (s : Seen) → s ≡ threads_seen w → s.pass ≡ threads_pass w
-unfolding threads_seen
-seen-pass w s e = ap (λ (t : Seen). t.pass) e ∙ go (threads_pass w)
-  where
-    full : Seen
-    full = record { pass = true; ready = state_count w 2; waiting = state_count w 3 }
-
-    none : Seen
-    none = record { pass = false; ready = 0; waiting = 0 }
-
-    go : (b : Bool) → (cond {A = Seen} b full none).pass ≡ b
-    go true = refl
-    go false = refl
-
-pub seen-full : (w : List ℕ) (s : Seen) → s ≡ threads_seen w → threads_pass w ≡ true → s ≡ record { pass = true; ready = state_count w 2; waiting = state_count w 3 }
-unfolding threads_seen
-seen-full w s e f = simp f at e

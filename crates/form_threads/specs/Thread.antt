@@ -1,11 +1,11 @@
 -- The threads in form. States are 1 running, 2 ready, 3 waiting, 4 exited.
-use Rattle.std.specs.Prelude.{Bool, cond, true, false, not, ℕ, zero, suc, ◌+◌, List, get_or, eqb, leb, ltb}
+use Rattle.std.specs.Prelude.{Bool, cond, true, false, not, ℕ, zero, suc, ◌+◌, List, Option, Some, None, get_or, eqb, leb, ltb}
 use Rattle.words.specs.Layout as at
 use Rattle.words.specs.Layout.{thread_at}
 use Rattle.threads.specs.Thread.{thread_of, known, thread_count, count_of, places_at}
 use Rattle.waits.specs.Lists.{bad_kind_in, unknown_in, duplicate_in}
 use Rattle.opening.specs.Open.{bad_priority}
-use Rattle.form_threads.specs.declared.Seen.{Seen}
+use Rattle.form_threads.specs.declared.Counts.{Counts}
 
 unfoldable pub has_state : List ℕ → ℕ → ℕ → Bool
 has_state w id state = eqb (get_or w (thread_at id + at.state) 0) state
@@ -79,8 +79,7 @@ state_count_in (suc m) w id state = one_if w id state + state_count_in m w (id +
 unfoldable pub state_count : List ℕ → ℕ → ℕ
 state_count w state = state_count_in (thread_count w) w 1 state
 
--- ---- what one pass says: whether every thread passes, and where they do, how many are ready and how many wait
+-- ---- what one pass says: where every thread passes, how many are ready and how many wait
 
-unfoldable pub threads_seen : List ℕ → Seen
-threads_seen w =
-    cond (threads_pass w) (record { pass = true; ready = state_count w 2; waiting = state_count w 3 }) (record { pass = false; ready = 0; waiting = 0 })
+unfoldable pub threads_seen : List ℕ → Option Counts
+threads_seen w = cond (threads_pass w) (Some (record { ready = state_count w 2; waiting = state_count w 3 })) None
