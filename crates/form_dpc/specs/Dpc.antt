@@ -1,12 +1,12 @@
 -- The DPCs in form. Phase 0 is idle, 1 queued, 2 running, 3 returning; origin 0 is a caller, 1 a timer.
-use Rattle.std.specs.Prelude.{Bool, cond, true, false, not, ℕ, zero, suc, ◌+◌, List, get_or, eqb, leb, ltb}
+use Rattle.std.specs.Prelude.{Bool, cond, true, false, not, ℕ, zero, suc, ◌+◌, List, Option, Some, None, get_or, eqb, leb, ltb}
 use Rattle.words.specs.Layout as at
 use Rattle.words.specs.Layout.{entry_at}
 use Rattle.tables.specs.Table.{key_at}
 use Rattle.objects.specs.Objects.{objects_base, dpcs_base, object_found, place_of}
 use Rattle.images.specs.Place.{architecture_of, dpc_size}
 use Rattle.dpcs.specs.Record.{dpc_count}
-use Rattle.form_dpc.specs.declared.dpc_records.Seen.{Seen}
+use Rattle.form_dpc.specs.declared.dpc_records.Counts.{Counts}
 use Rattle.form_dpc.specs.Place.{key_rises, located}
 use Rattle.form_dpc.specs.Timer.{has_dpc}
 
@@ -91,10 +91,8 @@ phase_count_in (suc m) w base i phase = phase_one w (entry_at base i) phase + ph
 unfoldable pub phase_count : List ℕ → ℕ → ℕ
 phase_count w phase = phase_count_in (dpc_count w) w (dpcs_base w) 0 phase
 
--- ---- what one pass says: whether every DPC passes, and where they do, how many are queued, active and returning
+-- ---- what one pass says: where every DPC passes, how many are queued, active and returning
 
-unfoldable pub dpcs_seen : List ℕ → Seen
+unfoldable pub dpcs_seen : List ℕ → Option Counts
 dpcs_seen w =
-    cond (dpcs_pass w)
-    (record { pass = true; queued = phase_count w 1; active = phase_count w 2 + phase_count w 3; returning = phase_count w 3 })
-    (record { pass = false; queued = 0; active = 0; returning = 0 })
+    cond (dpcs_pass w) (Some (record { queued = phase_count w 1; active = phase_count w 2 + phase_count w 3; returning = phase_count w 3 })) None

@@ -1,9 +1,14 @@
 -- The DPC queue in form.
-use Rattle.std.specs.Prelude.{Bool, cond, false, ℕ, zero, suc, ◌+◌, List, get_or, eqb, ltb}
+use Rattle.std.specs.Prelude.{Bool, cond, false, ℕ, zero, suc, ◌+◌, List, Option, Some, None, get_or, eqb, ltb}
 use Rattle.chains.specs.declared.Chain.{Chain}
 use Rattle.chains.specs.Chain.{first_of, next_of}
 use Rattle.dpcs.specs.Record.{dpc_count, place_at, queue_chain}
 use Rattle.form_dpc.specs.Dpc.{has_phase, phase_count}
+
+-- how many stand in a chain, from one more than that; none where the chain is out of form, which is 0
+unfoldable pub counted : ℕ → Option ℕ
+counted zero = None
+counted (suc n) = Some n
 
 -- the chain ends behind `before`, with `n` counted; 0 where its last is another
 unfoldable pub chain_end : List ℕ → Chain → ℕ → ℕ → ℕ

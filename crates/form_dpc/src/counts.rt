@@ -10,10 +10,7 @@ use words::layout;
 fn is_sum(total: u64, part: u64, rest: u64) -> bool
     ensures { result ≡ eqb total (part + rest) }
 {
-    if total < part {
-        return false;
-    }
-    total - part == rest
+    part.checked_add(rest) == Some(total)
 }
 
 // Document 01: demand 3's sum holds: what was accepted is removed, restored, queued or active.
@@ -21,16 +18,13 @@ pub fn sum_holds(w: &[u64], queued: u64, active: u64) -> bool
     ensures { result ≡ sum_holds_as w.now queued active }
 {
     let accepted = words::get(w, layout::ACCEPTED);
-    let removed = words::get(w, layout::REMOVED);
-    if accepted < removed {
+    let Some(kept) = accepted.checked_sub(words::get(w, layout::REMOVED)) else {
         return false;
-    }
-    let kept = accepted - removed;
-    let restored = words::get(w, layout::RESTORED);
-    if kept < restored {
+    };
+    let Some(left) = kept.checked_sub(words::get(w, layout::RESTORED)) else {
         return false;
-    }
-    is_sum(kept - restored, queued, active)
+    };
+    is_sum(left, queued, active)
 }
 
 // The active word is 0 where no work is active, else the address of a DPC whose work is.
@@ -42,25 +36,16 @@ fn active_passes(w: &[u64], active: u64) -> bool
         return active == 0;
     }
     let at = objects::find_dpc(w, address);
-    if at == 0 {
-        return false;
-    }
-    dpc_records::RUNNING <= words::get_in(w, at, layout::PHASE)
+    at != 0 && dpc_records::RUNNING <= words::get_in(w, at, layout::PHASE)
 }
 
 // Document 01: starts less restorations is the active work, at most one.
 pub fn starts_pass(w: &[u64], active: u64) -> bool
     ensures { result ≡ starts_pass_as w.now active }
 {
-    if 1 < active {
-        return false;
-    }
-    let started = words::get(w, layout::STARTED);
-    let restored = words::get(w, layout::RESTORED);
-    if !is_sum(started, restored, active) {
-        return false;
-    }
-    active_passes(w, active)
+    active <= 1
+        && is_sum(words::get(w, layout::STARTED), words::get(w, layout::RESTORED), active)
+        && active_passes(w, active)
 }
 
 // Document 01: returns less restorations is the returning work.

@@ -10,13 +10,11 @@ pub mod queue;
 pub mod timer;
 
 // Document 01: no key stands twice, for keys rise along each table.
+#[tactic(auto, unfolding(crate::specs::Place::key_rises))]
 pub fn key_rises(w: &[u64], base: usize, i: u64) -> bool
     ensures { result ≡ key_rises w.now base i }
 {
-    if i == 0 {
-        return true;
-    }
-    tables::key_at(w, base, i - 1) < tables::key_at(w, base, i)
+    i == 0 || tables::key_at(w, base, i - 1) < tables::key_at(w, base, i)
 }
 
 // The first record of a table of `n`, from record `from` on, whose key is not below `key`; `n` where there is none.
@@ -34,35 +32,28 @@ fn past(w: &[u64], base: usize, n: u64, from: u64, key: u64) -> u64
 }
 
 // Words that say nothing hold 0: the mapped bytes of an image.
+#[tactic(auto, unfolding(crate::specs::Place::mapped_passes))]
 fn mapped_passes(kind: u64, mapped: u64) -> bool
     ensures { result ≡ mapped_passes kind mapped }
 {
-    if kind == 0 {
-        return mapped == 0;
-    }
-    true
+    kind != 0 || mapped == 0
 }
 
 // Whether what stands at place `at` may stand in the guest's memory as its words say, with `size` bytes. The five words from
 // `from` on are its architecture and its backing with the base, the size and the mapped bytes.
+#[tactic(auto, unfolding(crate::specs::Place::located))]
 fn location_passes(w: &[u64], at: usize, from: usize, size: u64) -> bool
     requires { from ≤ 12 }
     ensures { result ≡ located w.now at from size }
 {
     let n = words::get_in(w, at, from);
-    if 1 < n {
-        return false;
-    }
     let kind = words::get_in(w, at, from + 1);
-    if 1 < kind {
-        return false;
-    }
     let base = words::get_in(w, at, from + 2);
     let length = words::get_in(w, at, from + 3);
     let mapped = words::get_in(w, at, from + 4);
-    if !mapped_passes(kind, mapped) {
-        return false;
-    }
     let b = images::backing_of(kind, base, length, mapped);
-    images::location_refusal(words::get(w, at), size, images::architecture_of(n), b) == 0
+    n <= 1
+        && kind <= 1
+        && mapped_passes(kind, mapped)
+        && images::location_refusal(words::get(w, at), size, images::architecture_of(n), b) == 0
 }

@@ -1,10 +1,7 @@
 use mathlib.Core.Path.{◌≡◌}
-use Prim.Native.Nat.{◌+◌}
+use Prim.Native.Nat.{◌+◌, ◌-◌}
 use Rattle.form_dpc.specs.Queue.{queue_in, queue_size}
 use Rattle.form_dpc.proofs.queue.queue_size.Given as goal
 
-abbrev pub invariant-loop-left : goal.invariant-loop-left
-invariant-loop-left l = (l.n + l.left ≡ 4098) × (queue_in l.left l.w l.c l.before l.at l.n ≡ queue_size l.w)
-
-abbrev pub decreases-loop-left : goal.decreases-loop-left
-decreases-loop-left l = l.left
+abbrev pub invariant-loop-n : goal.invariant-loop-n
+invariant-loop-n l = queue_in (4097 - l.n) l.w l.c l.before l.at (l.n + 1) ≡ queue_size l.w
