@@ -3,14 +3,16 @@ use Prim.Native.Nat.{ℕ, zero, suc, ◌+◌, ◌-◌, ◌≤◌, ◌<◌}
 use native.Mathlib.Omega.{arith}
 use mathlib.Core.List.{List}
 use mathlib.Core.Bool.{Bool, cond, true, false}
-use mathlib.Core.Path.{◌≡◌, refl}
+use mathlib.Core.Path.{◌≡◌, refl, sym}
+use Rattle.std.specs.Prelude.{Some, None}
+use Rattle.form_dpc.proofs.FormDpcLaws.{counted_more}
 use lib.ListN.{get_or}
 use lib.Dec.{eqb}
 use borrow.Author.Tests.{eq-eqb, ne_eqb, le-leb, lt-leb}
 use Rattle.chains.specs.declared.Chain.{Chain}
 use Rattle.chains.specs.Chain.{first_of, next_of}
 use Rattle.chains.specs.Ready.{ready_chain, waiters_chain}
-use Rattle.form_dpc.specs.Queue.{chain_end}
+use Rattle.form_dpc.specs.Queue.{chain_end, counted}
 use Rattle.form_chains.specs.Chain.{sequence_at, sequences_in, member_passes, chain_in, chain_size, bit_passes, queue_size, queues_in}
 
 less_one : (k : ℕ) → suc k - 1 ≡ k
@@ -104,3 +106,21 @@ pub queues-more : (k : ℕ) (w : List ℕ) (p n : ℕ) → 0 < k → (queue_size
 unfolding queues_in
 queues-more zero w p n h ne e = absurd (omega arith)
 queues-more (suc k) w p n h ne e = simp (ne_eqb _ _ ne, e, less_one k)
+
+-- ---- how many, from one more
+
+pub counted_zero : (size : ℕ) → None ≡ counted size → size ≡ 0
+unfolding counted
+counted_zero zero e = refl
+counted_zero (suc n) e = let z : ◌≡◌ {A = ℕ} 0 1 = cc in absurd (omega arith)
+
+pub counted_suc : (size n : ℕ) → Some n ≡ counted size → size ≡ n + 1
+unfolding counted
+counted_suc zero n e = let z : ◌≡◌ {A = ℕ} 0 1 = cc in absurd (omega arith)
+counted_suc (suc m) n e = let q : n ≡ m = cc in omega (arith, q)
+
+pub counted_some : (size n : ℕ) → Some n ≡ counted size → size ≡ 0 → ⊥
+counted_some size n e z = let q = counted_suc size n e in omega (arith, q)
+
+pub counted_at : (size n : ℕ) → size ≡ n + 1 → Some n ≡ counted size
+counted_at size n e = rw e (sym (counted_more n))

@@ -3,6 +3,7 @@
 #![tactic(auto)]
 
 ghost use Rattle.std.specs.Prelude.{◌≡◌, ◌≤◌};
+ghost use Rattle.form_dpc.specs.Queue.{counted};
 ghost use Rattle.form_chains.specs.Chain.{sequence_at, sequences_rise, has_priority, member_passes, chain_size, waiters_stand_as, flag, bit_passes, queue_size, ready_size, ready_stand_as};
 
 use chains::{Chain, ready};
@@ -10,6 +11,7 @@ use form_dpc::queue;
 use words::layout;
 
 // The sequence of a waiter's wait; at the chain's end, the next to be given.
+#[tactic(auto, unfolding(crate::specs::Chain::sequence_at))]
 fn sequence_at(w: &[u64], id: u64) -> u64
     ensures { result ≡ sequence_at w.now id }
 {
@@ -20,12 +22,12 @@ fn sequence_at(w: &[u64], id: u64) -> u64
 }
 
 // Document 01: wait sequences are distinct and below the next, for they rise along the waiters' chain and up to the next.
+// Not by `members`, which does not say whether it came to the end.
 pub fn sequences_rise(w: &[u64]) -> bool
     ensures { result ≡ sequences_rise w.now }
 {
     let mut at = chains::first_of(w, ready::waiters_chain());
-    let mut left: usize = 4096;
-    while 0 < left {
+    for _ in 0..chains::MOST {
         if at == 0 {
             return true;
         }
@@ -34,75 +36,61 @@ pub fn sequences_rise(w: &[u64]) -> bool
             return false;
         }
         at = next;
-        left -= 1;
     }
     false
 }
 
 // Whether a thread has the priority; 0 stands for any.
+#[tactic(auto, unfolding(crate::specs::Chain::has_priority))]
 fn has_priority(w: &[u64], id: u64, p: u64) -> bool
     ensures { result ≡ has_priority w.now id p }
 {
-    if p == 0 {
-        return true;
-    }
-    words::get_in(w, layout::thread_at(id), layout::PRIORITY) == p
+    p == 0 || words::get_in(w, layout::thread_at(id), layout::PRIORITY) == p
 }
 
 // Whether `id` is a thread that may stand in a chain of threads of this state and priority.
+#[tactic(auto, unfolding(crate::specs::Chain::member_passes))]
 fn member_passes(w: &[u64], id: u64, state: u64, p: u64) -> bool
     ensures { result ≡ member_passes w.now id state p }
 {
-    if !threads::is_known(w, id) {
-        return false;
-    }
-    if !form_threads::has_state(w, id, state) {
-        return false;
-    }
-    has_priority(w, id, p)
+    threads::is_known(w, id) && form_threads::has_state(w, id, state) && has_priority(w, id, p)
 }
 
-// 0 where a chain is out of form, else one more than how many stand in it.
-fn chain_size(w: &[u64], c: Chain, state: u64, p: u64) -> u64
-    ensures { result ≡ chain_size w.now c state p }
+// How many stand in a chain; None where it is out of form. Not by `members`, for the same reason.
+fn chain_size(w: &[u64], c: Chain, state: u64, p: u64) -> Option<u64>
+    ensures { result ≡ counted (chain_size w.now c state p) }
 {
     let mut before: u64 = 0;
     let mut at = chains::first_of(w, c);
-    let mut n: u64 = 1;
-    let mut left: u64 = 4096;
-    while 0 < left {
+    for n in 0..chains::MOST as u64 {
         if at == 0 {
             return queue::chain_end(w, c, before, n);
         }
         if !member_passes(w, at, state, p) {
-            return 0;
+            return None;
         }
         before = at;
         at = chains::next_of(w, c, at);
-        n += 1;
-        left -= 1;
     }
-    0
+    None
 }
 
 // Document 01: each chain holds exactly its members once, of the waiters' chain. `waiting` is how many threads wait.
 pub fn waiters_stand_once(w: &[u64], waiting: u64) -> bool
     ensures { result ≡ waiters_stand_as w.now waiting }
 {
-    let size = chain_size(w, ready::waiters_chain(), threads::WAITING, 0);
-    if size == 0 {
-        return false;
-    }
-    size - 1 == waiting
+    chain_size(w, ready::waiters_chain(), threads::WAITING, 0) == Some(waiting)
 }
 
+#[tactic(auto, unfolding(crate::specs::Chain::flag))]
 fn flag(id: u64) -> u64
     ensures { result ≡ flag id }
 {
-    if id == 0 { 0 } else { 1 }
+    u64::from(id != 0)
 }
 
 // The bit of priority `p` is set exactly if its queue has a last thread.
+#[tactic(auto, unfolding(crate::specs::Chain::bit_passes))]
 fn bit_passes(w: &[u64], p: u64) -> bool
     requires { p ≤ 31 }
     ensures { result ≡ bit_passes w.now p }
@@ -113,41 +101,31 @@ fn bit_passes(w: &[u64], p: u64) -> bool
     words::bit_at(m, p) == flag(last)
 }
 
-fn queue_size(w: &[u64], p: u64) -> u64
-    ensures { result ≡ queue_size w.now p }
+#[tactic(auto, unfolding(crate::specs::Chain::queue_size))]
+fn queue_size(w: &[u64], p: u64) -> Option<u64>
+    ensures { result ≡ counted (queue_size w.now p) }
 {
     chain_size(w, ready::ready_chain(p), threads::READY, p)
 }
 
-// 0 where a ready queue is out of form, else one more than how many stand in all of them.
-fn ready_size(w: &[u64]) -> u64
-    ensures { result ≡ ready_size w.now }
+// How many stand in all the ready queues; None where one is out of form.
+fn ready_size(w: &[u64]) -> Option<u64>
+    ensures { result ≡ counted (ready_size w.now) }
 {
-    let mut p: u64 = 1;
-    let mut n: u64 = 1;
-    let mut left: u64 = 31;
-    while 0 < left {
-        let size = queue_size(w, p);
-        if size == 0 {
-            return 0;
-        }
+    let mut n: u64 = 0;
+    for p in 1..32u64 {
+        let size = queue_size(w, p)?;
         if !bit_passes(w, p) {
-            return 0;
+            return None;
         }
-        n += size - 1;
-        p += 1;
-        left -= 1;
+        n += size;
     }
-    n
+    Some(n)
 }
 
 // Document 01: each chain holds exactly its members once, of the ready queues. `ready` is how many threads are ready.
 pub fn ready_stand_once(w: &[u64], ready: u64) -> bool
     ensures { result ≡ ready_stand_as w.now ready }
 {
-    let standing = ready_size(w);
-    if standing == 0 {
-        return false;
-    }
-    standing - 1 == ready
+    ready_size(w) == Some(ready)
 }
