@@ -15,14 +15,17 @@ use Rattle.form_dpc.specs.Timer.{dpc_serves}
 use Rattle.words.specs.Layout as at
 use Rattle.opening.proofs.OpenLaws.{Limits, limits}
 use Rattle.form.specs.Header.{limits_pass, counts_pass, current_passes, ready_passes, policy_passes, lifetimes_pass, header_numbers}
-use Rattle.form_threads.specs.Thread.{threads_pass, threads_seen}
-use Rattle.form_threads.specs.declared.Seen.{Seen}
+use Rattle.form.specs.Header.{long_enough}
+use Rattle.form.specs.Form.{in_form}
+use Rattle.std.specs.Prelude.{Option, Some, None}
+use Rattle.form_threads.specs.Thread.{threads_pass, threads_seen, state_count}
+use Rattle.form_threads.specs.declared.Counts as threads
+use Rattle.form_dpc.specs.Dpc.{dpcs_pass, dpcs_seen, phase_count}
+use Rattle.form_dpc.specs.declared.dpc_records.Counts as dpcs
+use Rattle.form_dpc.specs.Queue.{queue_stands_as, queue_stands_once}
+use Rattle.form_dpc.specs.Counts.{active_count, sum_holds_as, sum_holds, starts_pass_as, starts_pass, returns_pass_as, returns_pass}
+use Rattle.form_chains.specs.Chain.{sequences_rise, waiters_stand_as, waiters_stand_once, ready_stand_as, ready_stand_once}
 use Rattle.form.specs.Object.{object_numbers, owner_lives, object_passes, objects_in, objects_pass}
-use Rattle.form_chains.specs.Chain.{waiters_stand_as, waiters_stand_once, ready_stand_as, ready_stand_once}
-use Rattle.form_threads.proofs.ThreadLaws.{seen-full}
-
-less_one : (k : ℕ) → suc k - 1 ≡ k
-less_one k = omega arith
 
 -- ---- limits
 
@@ -30,32 +33,7 @@ pub limits-pass : (w : List ℕ) → limits_pass w ≡ true → Limits (get_or w
 unfolding limits_pass
 limits-pass w e = limits _ _ _ (not-true _ e)
 
--- the tests that are given the counts are those of the words
-module _ (w : List ℕ) (s : Seen) (b : Bool) (e : s ≡ threads_seen w) (f : threads_pass w ≡ true) where
-  pub waiters-as : b ≡ waiters_stand_as w s.waiting → waiters_stand_once w ≡ b
-  unfolding waiters_stand_once
-  waiters-as h = let q = ap (λ (t : Seen). t.waiting) (seen-full w s e f) in cc
-
-  pub ready-as : b ≡ ready_stand_as w s.ready → ready_stand_once w ≡ b
-  unfolding ready_stand_once
-  ready-as h = let q = ap (λ (t : Seen). t.ready) (seen-full w s e f) in cc
-
 -- ---- objects
-
-pub objects-none : (m : ℕ) (w : List ℕ) (base i : ℕ) → m ≤ 0 → objects_in m w base i ≡ true
-unfolding objects_in
-objects-none zero w base i h = refl
-objects-none (suc m) w base i h = absurd (omega arith)
-
-pub objects-stop : (m : ℕ) (w : List ℕ) (base i : ℕ) → 0 < m → object_passes w base i ≡ false → objects_in m w base i ≡ false
-unfolding objects_in
-objects-stop zero w base i h e = absurd (omega arith)
-objects-stop (suc m) w base i h e = simp e
-
-pub objects-more : (m : ℕ) (w : List ℕ) (base i : ℕ) → 0 < m → object_passes w base i ≡ true → objects_in m w base i ≡ objects_in (m - 1) w base (i + 1)
-unfolding objects_in
-objects-more zero w base i h e = absurd (omega arith)
-objects-more (suc m) w base i h e = simp (e, less_one m)
 
 objects-rise : (m : ℕ) (w : List ℕ) (base i : ℕ) → objects_in m w base i ≡ true → (x : ℕ) → i ≤ x → x < i + m → key_rises w base x ≡ true
 unfolding objects_in object_passes
@@ -89,3 +67,82 @@ unfolding objects_pass object_count
 risen w l h e =
     let few = objects-few w l h in
     record { few = few; rise = λ i k. objects-rise (get_or w at.objects 0) w (objects_base w) 0 (simp (le-leb (get_or w at.objects 0) 4096 few) at e) i (omega arith) (omega arith) }
+
+-- ---- what the passes say
+
+threads-of : (w : List ℕ) (t : threads.Counts) → ◌≡◌ {A = Option threads.Counts} (Some t) (threads_seen w)
+    → (threads_pass w ≡ true) × (t ≡ record { ready = state_count w 2; waiting = state_count w 3 })
+unfolding threads_seen
+threads-of w t e = go (threads_pass w) refl e
+  where
+    go : (b : Bool) → threads_pass w ≡ b → ◌≡◌ {A = Option threads.Counts} (Some t) (cond b (Some (record { ready = state_count w 2; waiting = state_count w 3 })) None)
+        → (threads_pass w ≡ true) × (t ≡ record { ready = state_count w 2; waiting = state_count w 3 })
+    go true p q = (p, cc)
+    go false p q = let z : ◌≡◌ {A = ℕ} 0 1 = cc in absurd (omega arith)
+
+pub threads-out : (w : List ℕ) → ◌≡◌ {A = Option threads.Counts} None (threads_seen w) → threads_pass w ≡ false
+unfolding threads_seen
+threads-out w e = go (threads_pass w) refl e
+  where
+    go : (b : Bool) → threads_pass w ≡ b → ◌≡◌ {A = Option threads.Counts} None (cond b (Some (record { ready = state_count w 2; waiting = state_count w 3 })) None)
+        → threads_pass w ≡ false
+    go true p q = let z : ◌≡◌ {A = ℕ} 0 1 = cc in absurd (omega arith)
+    go false p q = p
+
+dpcs-of : (w : List ℕ) (d : dpcs.Counts) → ◌≡◌ {A = Option dpcs.Counts} (Some d) (dpcs_seen w)
+    → (dpcs_pass w ≡ true) × (d ≡ record { queued = phase_count w 1; active = phase_count w 2 + phase_count w 3; returning = phase_count w 3 })
+unfolding dpcs_seen
+dpcs-of w d e = go (dpcs_pass w) refl e
+  where
+    go : (b : Bool) → dpcs_pass w ≡ b
+        → ◌≡◌ {A = Option dpcs.Counts} (Some d) (cond b (Some (record { queued = phase_count w 1; active = phase_count w 2 + phase_count w 3; returning = phase_count w 3 })) None)
+        → (dpcs_pass w ≡ true) × (d ≡ record { queued = phase_count w 1; active = phase_count w 2 + phase_count w 3; returning = phase_count w 3 })
+    go true p q = (p, cc)
+    go false p q = let z : ◌≡◌ {A = ℕ} 0 1 = cc in absurd (omega arith)
+
+pub dpcs-out : (w : List ℕ) → ◌≡◌ {A = Option dpcs.Counts} None (dpcs_seen w) → dpcs_pass w ≡ false
+unfolding dpcs_seen
+dpcs-out w e = go (dpcs_pass w) refl e
+  where
+    go : (b : Bool) → dpcs_pass w ≡ b
+        → ◌≡◌ {A = Option dpcs.Counts} None (cond b (Some (record { queued = phase_count w 1; active = phase_count w 2 + phase_count w 3; returning = phase_count w 3 })) None)
+        → dpcs_pass w ≡ false
+    go true p q = let z : ◌≡◌ {A = ℕ} 0 1 = cc in absurd (omega arith)
+    go false p q = p
+
+module _ (w : List ℕ) (t : threads.Counts) (e : ◌≡◌ {A = Option threads.Counts} (Some t) (threads_seen w)) where
+  pub threads-in : threads_pass w ≡ true
+  threads-in = (threads-of w t e).0
+
+  waiters-as : waiters_stand_once w ≡ waiters_stand_as w t.waiting
+  unfolding waiters_stand_once
+  waiters-as = let q = ap (λ (t : threads.Counts). t.waiting) (threads-of w t e).1 in cc
+
+  ready-as : ready_stand_once w ≡ ready_stand_as w t.ready
+  unfolding ready_stand_once
+  ready-as = let q = ap (λ (t : threads.Counts). t.ready) (threads-of w t e).1 in cc
+
+  module _ (d : dpcs.Counts) (f : ◌≡◌ {A = Option dpcs.Counts} (Some d) (dpcs_seen w)) where
+    queue-as : queue_stands_once w ≡ queue_stands_as w d.queued
+    unfolding queue_stands_once
+    queue-as = let q = ap (λ (t : dpcs.Counts). t.queued) (dpcs-of w d f).1 in cc
+
+    sum-as : sum_holds w ≡ sum_holds_as w d.queued d.active
+    unfolding sum_holds active_count
+    sum-as = let q = ap (λ (t : dpcs.Counts). t.queued) (dpcs-of w d f).1 in let a = ap (λ (t : dpcs.Counts). t.active) (dpcs-of w d f).1 in cc
+
+    starts-as : starts_pass w ≡ starts_pass_as w d.active
+    unfolding starts_pass active_count
+    starts-as = let a = ap (λ (t : dpcs.Counts). t.active) (dpcs-of w d f).1 in cc
+
+    returns-as : returns_pass w ≡ returns_pass_as w d.returning
+    unfolding returns_pass
+    returns-as = let a = ap (λ (t : dpcs.Counts). t.returning) (dpcs-of w d f).1 in cc
+
+    -- where each record passes, the tests that are given the counts are what is left
+    pub counts_left : {r : Bool} → limits_pass w ≡ true → long_enough w ≡ true → header_numbers w ≡ true → objects_pass w ≡ true
+        → r ≡ cond (sequences_rise w) (cond (waiters_stand_as w t.waiting) (cond (ready_stand_as w t.ready) (cond (queue_stands_as w d.queued)
+        (cond (sum_holds_as w d.queued d.active) (cond (starts_pass_as w d.active) (returns_pass_as w d.returning) false) false) false) false) false) false
+        → r ≡ in_form w
+    unfolding in_form
+    counts_left a b h o e = simp (a, b, h, threads-in, o, (dpcs-of w d f).0, waiters-as, ready-as, queue-as, sum-as, starts-as, returns-as) e

@@ -8,6 +8,7 @@ use words::layout;
 const LIFETIME: u64 = 65_536;
 
 // Document 01: limits pass their checks.
+#[tactic(auto, unfolding(crate::specs::Header::limits_pass))]
 pub fn limits_pass(w: &[u64]) -> bool
     ensures { result ≡ limits_pass w.now }
 {
@@ -29,23 +30,19 @@ pub fn is_long_enough(w: &[u64]) -> bool
 }
 
 // At least one thread, and no more of each than its limit.
+#[tactic(auto, unfolding(crate::specs::Header::counts_pass))]
 fn counts_pass(w: &[u64]) -> bool
     ensures { result ≡ counts_pass w.now }
 {
     let n = words::get(w, layout::THREADS);
-    if n < 1 {
-        return false;
-    }
-    if words::get(w, layout::THREAD_LIMIT) < n {
-        return false;
-    }
-    if words::get(w, layout::OBJECT_LIMIT) < words::get(w, layout::OBJECTS) {
-        return false;
-    }
-    words::get(w, layout::DPCS) <= words::get(w, layout::DPC_LIMIT)
+    1 <= n
+        && n <= words::get(w, layout::THREAD_LIMIT)
+        && words::get(w, layout::OBJECTS) <= words::get(w, layout::OBJECT_LIMIT)
+        && words::get(w, layout::DPCS) <= words::get(w, layout::DPC_LIMIT)
 }
 
 // The current thread is 0 for none, or a thread.
+#[tactic(auto, unfolding(crate::specs::Header::current_passes))]
 fn current_passes(w: &[u64]) -> bool
     ensures { result ≡ current_passes w.now }
 {
@@ -53,27 +50,24 @@ fn current_passes(w: &[u64]) -> bool
 }
 
 // The ready word has 32 bits, and none for 0, which is no priority.
+#[tactic(auto, unfolding(crate::specs::Header::ready_passes))]
 fn ready_passes(w: &[u64]) -> bool
     ensures { result ≡ ready_passes w.now }
 {
     let m = words::get(w, layout::READY);
-    if 0xffff_ffff < m {
-        return false;
-    }
-    words::bit_at(m, 0) == 0
+    m <= 0xffff_ffff && words::bit_at(m, 0) == 0
 }
 
 // Words that say nothing hold 0: the two timer arguments of no policy.
+#[tactic(auto, unfolding(crate::specs::Header::no_arguments))]
 fn has_no_arguments(w: &[u64]) -> bool
     ensures { result ≡ no_arguments w.now }
 {
-    if words::get(w, layout::TIMER_ARGUMENT) != 0 {
-        return false;
-    }
-    words::get(w, layout::TIMER_ARGUMENT_2) == 0
+    words::get(w, layout::TIMER_ARGUMENT) == 0 && words::get(w, layout::TIMER_ARGUMENT_2) == 0
 }
 
 // No policy and no arguments, or a policy whose two timer arguments are not 0 and differ.
+#[tactic(auto, unfolding(crate::specs::Header::policy_passes))]
 fn policy_passes(w: &[u64]) -> bool
     ensures { result ≡ policy_passes w.now }
 {
@@ -81,47 +75,24 @@ fn policy_passes(w: &[u64]) -> bool
     if policy == 0 {
         return has_no_arguments(w);
     }
-    if policy != 1 {
-        return false;
-    }
     let first = words::get(w, layout::TIMER_ARGUMENT);
-    if first == 0 {
-        return false;
-    }
     let second = words::get(w, layout::TIMER_ARGUMENT_2);
-    if second == 0 {
-        return false;
-    }
-    first != second
+    policy == 1 && first != 0 && second != 0 && first != second
 }
 
+#[tactic(auto, unfolding(crate::specs::Header::lifetimes_pass))]
 fn lifetimes_pass(w: &[u64]) -> bool
     ensures { result ≡ lifetimes_pass w.now }
 {
-    if LIFETIME < words::get(w, layout::ACCEPTED) {
-        return false;
-    }
-    if LIFETIME < words::get(w, layout::TIMER_INITIALIZATIONS) {
-        return false;
-    }
-    words::get(w, layout::DPC_INITIALIZATIONS) <= LIFETIME
+    words::get(w, layout::ACCEPTED) <= LIFETIME
+        && words::get(w, layout::TIMER_INITIALIZATIONS) <= LIFETIME
+        && words::get(w, layout::DPC_INITIALIZATIONS) <= LIFETIME
 }
 
 // Document 01: stored numbers pass their checks, of the header.
+#[tactic(auto, unfolding(crate::specs::Header::header_numbers))]
 pub fn numbers_pass(w: &[u64]) -> bool
     ensures { result ≡ header_numbers w.now }
 {
-    if !counts_pass(w) {
-        return false;
-    }
-    if !current_passes(w) {
-        return false;
-    }
-    if !ready_passes(w) {
-        return false;
-    }
-    if !policy_passes(w) {
-        return false;
-    }
-    lifetimes_pass(w)
+    counts_pass(w) && current_passes(w) && ready_passes(w) && policy_passes(w) && lifetimes_pass(w)
 }

@@ -34,6 +34,7 @@ use form_dpc::{counts, dpc_records, queue};
 pub mod header;
 pub mod object;
 
+#[tactic(auto, unfolding(crate::specs::Form::in_form))]
 pub fn in_form(w: &[u64]) -> bool
     ensures { result ≡ in_form w.now }
 {
@@ -46,34 +47,20 @@ pub fn in_form(w: &[u64]) -> bool
     if !header::numbers_pass(w) {
         return false;
     }
-    let t = form_threads::threads_pass(w);
-    if !t.pass {
+    let Some(t) = form_threads::threads_pass(w) else {
         return false;
-    }
+    };
     if !object::objects_pass(w) {
         return false;
     }
-    let d = dpc_records::dpcs_pass(w);
-    if !d.pass {
+    let Some(d) = dpc_records::dpcs_pass(w) else {
         return false;
-    }
-    if !form_chains::sequences_rise(w) {
-        return false;
-    }
-    if !form_chains::waiters_stand_once(w, t.waiting) {
-        return false;
-    }
-    if !form_chains::ready_stand_once(w, t.ready) {
-        return false;
-    }
-    if !queue::queue_stands_once(w, d.queued) {
-        return false;
-    }
-    if !counts::sum_holds(w, d.queued, d.active) {
-        return false;
-    }
-    if !counts::starts_pass(w, d.active) {
-        return false;
-    }
-    counts::returns_pass(w, d.returning)
+    };
+    form_chains::sequences_rise(w)
+        && form_chains::waiters_stand_once(w, t.waiting)
+        && form_chains::ready_stand_once(w, t.ready)
+        && queue::queue_stands_once(w, d.queued)
+        && counts::sum_holds(w, d.queued, d.active)
+        && counts::starts_pass(w, d.active)
+        && counts::returns_pass(w, d.returning)
 }
