@@ -44,7 +44,11 @@ pub fn starts_pass(w: &[u64], active: u64) -> bool
     ensures { result ≡ starts_pass_as w.now active }
 {
     active <= 1
-        && is_sum(words::get(w, layout::STARTED), words::get(w, layout::RESTORED), active)
+        && is_sum(
+            words::get(w, layout::STARTED),
+            words::get(w, layout::RESTORED),
+            active,
+        )
         && active_passes(w, active)
 }
 

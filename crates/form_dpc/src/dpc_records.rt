@@ -45,7 +45,9 @@ fn work_passes(w: &[u64], at: usize) -> bool
     if has_phase(w, at, IDLE) {
         return true;
     }
-    words::get_in(w, at, layout::ORIGIN) <= 1 && origin_passes(w, at) && words::get_in(w, at, layout::ORIGIN_PERIODIC) <= 1
+    words::get_in(w, at, layout::ORIGIN) <= 1
+        && origin_passes(w, at)
+        && words::get_in(w, at, layout::ORIGIN_PERIODIC) <= 1
 }
 
 // Document 01: stored numbers pass their checks, of a DPC. No location has the address 0.
@@ -63,7 +65,8 @@ fn address_stands_once(w: &[u64], base: usize, i: u64, j: u64) -> bool
     ensures { result ≡ address_at w.now base i j }
 {
     super::key_rises(w, base, i)
-        && (words::get(w, layout::OBJECTS) <= j || tables::key_at(w, objects::objects_base(w), j) != tables::key_at(w, base, i))
+        && (words::get(w, layout::OBJECTS) <= j
+            || tables::key_at(w, objects::objects_base(w), j) != tables::key_at(w, base, i))
 }
 
 // Document 01: no queued or active work bears a sequence not yet given. They are given from 1 on, one an acceptance.
@@ -96,7 +99,10 @@ fn dpc_passes(w: &[u64], base: usize, i: u64, j: u64) -> bool
     ensures { result ≡ dpc_passes_at w.now base i j }
 {
     let at = layout::entry_at(base, i);
-    numbers_pass(w, at) && address_stands_once(w, base, i, j) && sequence_is_given(w, at) && is_named_rightly(w, at)
+    numbers_pass(w, at)
+        && address_stands_once(w, base, i, j)
+        && sequence_is_given(w, at)
+        && is_named_rightly(w, at)
 }
 
 #[tactic(auto, unfolding(crate::specs::Dpc::has_phase))]

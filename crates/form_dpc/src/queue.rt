@@ -12,7 +12,11 @@ use dpcs::record;
 pub fn chain_end(w: &[u64], c: Chain, before: u64, n: u64) -> Option<u64>
     ensures { result ≡ counted (chain_end w.now c before (n + 1)) }
 {
-    if words::get(w, c.last as usize) == before { Some(n) } else { None }
+    if words::get(w, c.last as usize) == before {
+        Some(n)
+    } else {
+        None
+    }
 }
 
 // Whether `n`, not 0, is the number of a queued DPC.

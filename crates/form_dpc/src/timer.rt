@@ -21,7 +21,9 @@ fn times_pass(w: &[u64], at: usize) -> bool
     ensures { result ≡ timer_times w.now at }
 {
     let n = words::get_in(w, at, layout::INITIALIZATION);
-    words::get_in(w, at, layout::PERIOD) <= 0x7fff_ffff && n != 0 && n <= words::get(w, layout::TIMER_INITIALIZATIONS)
+    words::get_in(w, at, layout::PERIOD) <= 0x7fff_ffff
+        && n != 0
+        && n <= words::get(w, layout::TIMER_INITIALIZATIONS)
 }
 
 #[tactic(auto, unfolding(crate::specs::Timer::timer_placed))]
@@ -55,7 +57,9 @@ fn serves_it(w: &[u64], dpc: u64, key: u64) -> bool
 pub fn dpc_serves(w: &[u64], at: usize) -> bool
     ensures { result ≡ dpc_serves w.now at }
 {
-    if words::get_in(w, at, layout::KIND) != objects::TIMER || words::get_in(w, at, layout::INSERTED) == 0 {
+    if words::get_in(w, at, layout::KIND) != objects::TIMER
+        || words::get_in(w, at, layout::INSERTED) == 0
+    {
         return true;
     }
     let dpc = words::get_in(w, at, layout::TIMER_DPC);

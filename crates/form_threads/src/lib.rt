@@ -38,7 +38,10 @@ fn record_passes(w: &[u64], id: u64) -> bool
     ensures { result ≡ record_passes w.now id }
 {
     let t = threads::read_thread(w, id);
-    !opening::is_bad_priority(t.priority) && !is_bad_state(t.state) && t.result <= 65 && t.status <= 0xffff_ffff
+    !opening::is_bad_priority(t.priority)
+        && !is_bad_state(t.state)
+        && t.result <= 65
+        && t.status <= 0xffff_ffff
 }
 
 // Words that say nothing hold 0: the exit status of a thread that has not exited.
@@ -46,7 +49,8 @@ fn record_passes(w: &[u64], id: u64) -> bool
 fn exit_passes(w: &[u64], id: u64) -> bool
     ensures { result ≡ exit_passes w.now id }
 {
-    has_state(w, id, threads::EXITED) || words::get_in(w, layout::thread_at(id), layout::STATUS) == 0
+    has_state(w, id, threads::EXITED)
+        || words::get_in(w, layout::thread_at(id), layout::STATUS) == 0
 }
 
 // The wait that a thread has, or had last: two flags, at most 64 places, and kinds.
@@ -92,7 +96,8 @@ fn runs_if_current(w: &[u64], id: u64) -> bool
 fn waits_for_known(w: &[u64], id: u64) -> bool
     ensures { result ≡ waits_for_known w.now id }
 {
-    !has_state(w, id, threads::WAITING) || !lists::has_unknown(w, w, threads::places_at(id), threads::count_of(w, id))
+    !has_state(w, id, threads::WAITING)
+        || !lists::has_unknown(w, w, threads::places_at(id), threads::count_of(w, id))
 }
 
 // Document 01: no wait list names an object twice.
@@ -100,14 +105,18 @@ fn waits_for_known(w: &[u64], id: u64) -> bool
 fn waits_for_each_once(w: &[u64], id: u64) -> bool
     ensures { result ≡ waits_for_each_once w.now id }
 {
-    !has_state(w, id, threads::WAITING) || !lists::has_duplicate(w, threads::places_at(id), threads::count_of(w, id))
+    !has_state(w, id, threads::WAITING)
+        || !lists::has_duplicate(w, threads::places_at(id), threads::count_of(w, id))
 }
 
 #[tactic(auto, unfolding(crate::specs::Thread::thread_passes))]
 fn thread_passes(w: &[u64], id: u64) -> bool
     ensures { result ≡ thread_passes w.now id }
 {
-    numbers_pass(w, id) && runs_if_current(w, id) && waits_for_known(w, id) && waits_for_each_once(w, id)
+    numbers_pass(w, id)
+        && runs_if_current(w, id)
+        && waits_for_known(w, id)
+        && waits_for_each_once(w, id)
 }
 
 // How many threads are ready and how many wait.
