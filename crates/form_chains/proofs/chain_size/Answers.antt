@@ -1,6 +1,6 @@
 use mathlib.Core.Path.{◌≡◌, ◌∙◌, sym}
 use native.Mathlib.Omega.{arith}
-use Prim.Native.Nat.{◌+◌, ◌-◌, ◌<◌, ◌≤◌}
+use Prim.Native.Nat.{◌+◌, ◌-◌}
 use Rattle.form_dpc.proofs.FormDpcLaws.{counted_none}
 use Rattle.form_chains.specs.Chain.{chain_size}
 use Rattle.form_chains.proofs.ChainLaws.{chain-none, chain-ends, chain-stop, chain_more}

@@ -1,6 +1,6 @@
 use mathlib.Core.Path.{◌≡◌, ◌∙◌, sym}
 use native.Mathlib.Omega.{arith}
-use Prim.Native.Nat.{◌+◌, ◌-◌, ◌<◌, ◌≤◌}
+use Prim.Native.Nat.{◌+◌, ◌-◌}
 use borrow.Author.Rules.{rules}
 use Rattle.form_dpc.proofs.FormDpcLaws.{counted_none}
 use Rattle.form_chains.specs.Chain.{queue_size, ready_size}
