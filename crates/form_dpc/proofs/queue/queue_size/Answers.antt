@@ -1,6 +1,6 @@
 use mathlib.Core.Path.{◌≡◌, ◌∙◌, sym}
 use native.Mathlib.Omega.{arith}
-use Prim.Native.Nat.{◌+◌, ◌-◌, ◌<◌, ◌≤◌}
+use Prim.Native.Nat.{◌+◌, ◌-◌}
 use Rattle.form_dpc.specs.Queue.{queue_size}
 use Rattle.form_dpc.proofs.FormDpcLaws.{queue-none, queue-ends, queue-stop, queue-more, counted_none}
 use Rattle.form_dpc.proofs.queue.queue_size.Goals as goal
