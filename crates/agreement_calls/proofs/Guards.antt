@@ -8,7 +8,7 @@ use Rattle.answers.specs.Outcome.{Outcome, outcome}
 use Rattle.dispatcher.specs.Dispatch.{told}
 use Rattle.dispatcher.specs.Dispatched.{dispatched}
 use Rattle.dpc_work.specs.Work.{Started, start_outcome}
-use Rattle.dpc_work.specs.declared.WorkAnswer.TheVariants as work
+use Rattle.dpc_work.specs.WorkAnswer as work
 use Rattle.form.specs.Form.{in_form}
 use Rattle.calls.specs.Guard.{Kind, Code, refusing, guarded, guarded_dispatch, guarded_start, readable}
 

@@ -8,8 +8,8 @@ use native.Mathlib.Omega.{arith}
 use lib.Dec.{eqb}
 use lib.ListN.{length}
 use Rattle.dispatcher.specs.declared.read.ThreadView.{ThreadView}
-use Rattle.dispatcher.specs.declared.read.PlaceAnswer.{PlaceAnswer}
-use Rattle.dispatcher.specs.declared.read.PlaceAnswer.TheVariants as object
+use Rattle.dispatcher.specs.PlaceAnswer.{PlaceAnswer}
+use Rattle.dispatcher.specs.PlaceAnswer as object
 use Rattle.dispatcher.specs.Read.{view_of, thread_read, threads_at, waited_object}
 use Rattle.call_answers.specs.Told.{told_object}
 use Rattle.calls.specs.Run.{named_by, objects_read, status_read, result_read, view_read, told_thread}

@@ -15,7 +15,7 @@ use Rattle.images.specs.declared.Dpc.{Dpc}
 use Rattle.dpcs.specs.Record as record-words
 use Rattle.dpcs.specs.Record.{place_at, number_of, queue_chain}
 use Rattle.dpc_reads.specs.Reads as words
-use Rattle.dpc_reads.specs.declared.DpcAnswer.TheVariants as read
+use Rattle.dpc_reads.specs.DpcAnswer as read
 use Rattle.answers.specs.declared.Answer as code
 use Rattle.answers.specs.declared.Answer.TheVariants as answer
 use Rattle.call_answers.specs.Told.{told, told_dpc, told_policy, told_counters}

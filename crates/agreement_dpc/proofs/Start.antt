@@ -19,7 +19,7 @@ use Rattle.dpcs.specs.Record as record-words
 use Rattle.dpcs.specs.Record.{place_at, number_of, queue_chain}
 use Rattle.dpc_queue.specs.Queue.{raised}
 use Rattle.dpc_work.specs.Work as words
-use Rattle.dpc_work.specs.declared.WorkAnswer.TheVariants as start
+use Rattle.dpc_work.specs.WorkAnswer as start
 use Rattle.call_answers.specs.Told.{told_work}
 use Rattle.model.specs.Lists.{Mem, rest, present}
 use Rattle.model.specs.State.{State}

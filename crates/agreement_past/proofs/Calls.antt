@@ -11,7 +11,7 @@ use Rattle.answers.specs.declared.Answer.TheVariants as answer
 use Rattle.dispatcher.specs.Dispatch.{told}
 use Rattle.dispatcher.specs.Dispatched.{dispatched}
 use Rattle.dpc_work.specs.Work.{Started, start_outcome}
-use Rattle.dpc_work.specs.declared.WorkAnswer.TheVariants as start
+use Rattle.dpc_work.specs.WorkAnswer as start
 use Rattle.event_release.specs.Release.{release_refusal, events_retired}
 use Rattle.form.specs.Form.{in_form}
 use Rattle.calls.specs.Guard.{guarded_dispatch, guarded_start}

@@ -8,6 +8,7 @@ use borrow.Author.Tests.{eqb-false}
 use lib.Dec.{eqb, ltb}
 use lib.ListN.{get_or, set, length}
 use Rattle.words.specs.Word.{top_bit}
+use Rattle.std.specs.Prelude.{is_some, unwrap_or}
 use Rattle.words.specs.Layout as at
 use Rattle.answers.specs.declared.Answer.TheVariants as answer
 use Rattle.answers.specs.Outcome.{outcome}
@@ -178,7 +179,7 @@ module _ (w : List ℕ) (s : State) (a : Agree w s) (v : Valid s) where
   pub dispatched-kept : (out : List ℕ) → Same (Beyond s.limits) w (dispatched w out).words
   unfolding dispatched
   dispatched-kept out =
-      go (ltb (length out) (get_or w at.thread_limit 0)) (eqb (get_or w at.current 0) 0) (eqb (top_bit (get_or w at.ready 0)) 0) (next_time w).some (eqb (dispatch.listed_to w) 0) refl
+      go (ltb (length out) (get_or w at.thread_limit 0)) (eqb (get_or w at.current 0) 0) (eqb (top_bit (get_or w at.ready 0)) 0) (is_some (next_time w)) (eqb (dispatch.listed_to w) 0) refl
     where
       p : ℕ
       p = top_bit (get_or w at.ready 0)
@@ -187,7 +188,7 @@ module _ (w : List ℕ) (s : State) (a : Agree w s) (v : Valid s) where
           → Same (Beyond s.limits) w (cond short (told (answer.Refused 27) w out)
           (cond none
           (cond idle
-          (cond timed (told (answer.AdvanceTo (next_time w).at) w out)
+          (cond timed (told (answer.AdvanceTo (unwrap_or (next_time w) 0)) w out)
           (cond empty (told answer.Finished w (dispatch.listed w out)) (told (answer.Deadlocked (dispatch.listed_to w)) w (dispatch.listed w out))))
           (told (ran w (top_bit (get_or w at.ready 0))).answer (ran w (top_bit (get_or w at.ready 0))).words out))
           (told (answer.Run (get_or w at.current 0)) w out))).words

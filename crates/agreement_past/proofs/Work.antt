@@ -16,7 +16,7 @@ use Rattle.dpcs.specs.Record.{work_at, place_at, number_of, queue_chain}
 use Rattle.dpc_queue.specs.declared.Origin.{Origin}
 use Rattle.dpc_queue.specs.Queue.{raised, origin_put, work_put, queued, accepted, withdrawn}
 use Rattle.dpc_work.specs.Work as words
-use Rattle.dpc_work.specs.declared.WorkAnswer.TheVariants as start
+use Rattle.dpc_work.specs.WorkAnswer as start
 use Rattle.model.specs.Lists.{Mem}
 use Rattle.model.specs.State.{Limits, State}
 use Rattle.agreement_chains.specs.Chains.{Same, Holds}

@@ -8,6 +8,7 @@ use native.Mathlib.Omega.{arith}
 use borrow.Author.Tests.{eq-eqb, ne_eqb, ltb-false}
 use lib.ListN.{get_or, length}
 use lib.Dec.{eqb, ltb}
+use Rattle.std.specs.Prelude.{Some, None, is_some, unwrap_or}
 use Rattle.words.specs.Layout as at
 use Rattle.answers.specs.declared.Answer.TheVariants as answer
 use Rattle.call_answers.specs.Told.{told_with}
@@ -30,6 +31,7 @@ use Rattle.agreement.specs.Agree.{Agree}
 use Rattle.agreement.specs.Matches.{Matches}
 use Rattle.agreement.proofs.Matches.{step-refused, step-accepted}
 use Rattle.agreement_threads.proofs.Listed.{listed-is, listed-none}
+use Rattle.agreement_threads.proofs.Least.{Seen, due_of}
 use Rattle.agreement_threads.proofs.NextTime.{next-time-is}
 use Rattle.agreement_threads.proofs.Ran.{top-bit-is, top-none, agree-ran}
 
@@ -65,24 +67,24 @@ module _ (w : List ℕ) (s : State) (a : Agree w s) (v : Valid s) (out : List �
       go false = record { answers = ap Deadlocked (listed-is w s _ _ a out room); agree = a }
 
   idle : s.limits.threads ≤ length out
-      → Dispatches (cond (next_time w).some (words.told (answer.AdvanceTo (next_time w).at) w out)
+      → Dispatches (cond (is_some (next_time w)) (words.told (answer.AdvanceTo (unwrap_or (next_time w) 0)) w out)
       (cond (eqb (listed_to w) 0) (words.told answer.Finished w (listed w out)) (words.told (answer.Deadlocked (listed_to w)) w (listed w out))))
       (gives (idle_answer s.dispatcher) s)
   unfolding idle_answer
-  idle room = go (next_time w).some refl (next-time-is w s _ _ a v.sound.standing.waiters_waiting)
+  idle room = go (next_time w) (next-time-is w s _ _ a v.sound.standing.waiters_waiting)
     where
       times : Option ℕ
       times = smallest (deadlines_of s.dispatcher.threads ++ dues_of (keep (counts s.dispatcher) (timers_of s.dispatcher.objects)))
 
-      go : (b : Bool) → (next_time w).some ≡ b → cond b (some (next_time w).at) none ≡ times
-          → Dispatches (cond b (words.told (answer.AdvanceTo (next_time w).at) w out)
+      go : (o : Seen) → due_of o ≡ times
+          → Dispatches (cond (is_some o) (words.told (answer.AdvanceTo (unwrap_or o 0)) w out)
           (cond (eqb (listed_to w) 0) (words.told answer.Finished w (listed w out)) (words.told (answer.Deadlocked (listed_to w)) w (listed w out))))
           (gives (given times (cond (is_empty (waiting_numbers s.dispatcher)) Finished (Deadlocked (waiting_numbers s.dispatcher))) AdvanceTo) s)
-      go true q e = record {
+      go (Some time) e = record {
         answers = ap (λ (o : Option ℕ). given o (cond (is_empty (waiting_numbers s.dispatcher)) Finished (Deadlocked (waiting_numbers s.dispatcher))) AdvanceTo) e;
         agree = a;
       }
-      go false q e =
+      go None e =
           subst (λ (o : Option ℕ). Dispatches (cond (eqb (listed_to w) 0) (words.told answer.Finished w (listed w out)) (words.told (answer.Deadlocked (listed_to w)) w (listed w out)))
           (gives (given o (cond (is_empty (waiting_numbers s.dispatcher)) Finished (Deadlocked (waiting_numbers s.dispatcher))) AdvanceTo) s)) e (stuck room)
 
@@ -94,7 +96,7 @@ module _ (w : List ℕ) (s : State) (a : Agree w s) (v : Valid s) (out : List �
       cond b (words.told (answer.Refused 27) w out)
       (cond (eqb id 0)
       (cond (eqb p 0)
-      (cond (next_time w).some (words.told (answer.AdvanceTo (next_time w).at) w out)
+      (cond (is_some (next_time w)) (words.told (answer.AdvanceTo (unwrap_or (next_time w) 0)) w out)
       (cond (eqb (listed_to w) 0) (words.told answer.Finished w (listed w out)) (words.told (answer.Deadlocked (listed_to w)) w (listed w out))))
       (words.told (words.ran w p).answer (words.ran w p).words out))
       (words.told (answer.Run id) w out))
@@ -109,21 +111,21 @@ module _ (w : List ℕ) (s : State) (a : Agree w s) (v : Valid s) (out : List �
   -- none is current
   resumes : s.limits.threads ≤ length out
       → Dispatches (cond (eqb (largest (priority_of s.dispatcher) s.dispatcher.placed) 0)
-      (cond (next_time w).some (words.told (answer.AdvanceTo (next_time w).at) w out)
+      (cond (is_some (next_time w)) (words.told (answer.AdvanceTo (unwrap_or (next_time w) 0)) w out)
       (cond (eqb (listed_to w) 0) (words.told answer.Finished w (listed w out)) (words.told (answer.Deadlocked (listed_to w)) w (listed w out))))
       (words.told (words.ran w (largest (priority_of s.dispatcher) s.dispatcher.placed)).answer (words.ran w (largest (priority_of s.dispatcher) s.dispatcher.placed)).words out))
       (cond (is_empty s.dispatcher.placed) (gives (idle_answer s.dispatcher) s) (gives (Run (next s.dispatcher)) (with_dispatcher s (ran s.dispatcher (next s.dispatcher)))))
   unfolding words.ran
   resumes room =
       subst (λ (b : Bool). Dispatches (cond b
-      (cond (next_time w).some (words.told (answer.AdvanceTo (next_time w).at) w out)
+      (cond (is_some (next_time w)) (words.told (answer.AdvanceTo (unwrap_or (next_time w) 0)) w out)
       (cond (eqb (listed_to w) 0) (words.told answer.Finished w (listed w out)) (words.told (answer.Deadlocked (listed_to w)) w (listed w out))))
       (words.told (words.ran w top).answer (words.ran w top).words out))
       (cond (is_empty s.dispatcher.placed) (gives (idle_answer s.dispatcher) s) (gives (Run (next s.dispatcher)) (with_dispatcher s (ran s.dispatcher (next s.dispatcher)))))) (sym top-empty)
       (go (is_empty s.dispatcher.placed) refl)
     where
       go : (b : Bool) → is_empty s.dispatcher.placed ≡ b → Dispatches (cond b
-          (cond (next_time w).some (words.told (answer.AdvanceTo (next_time w).at) w out)
+          (cond (is_some (next_time w)) (words.told (answer.AdvanceTo (unwrap_or (next_time w) 0)) w out)
           (cond (eqb (listed_to w) 0) (words.told answer.Finished w (listed w out)) (words.told (answer.Deadlocked (listed_to w)) w (listed w out))))
           (words.told (words.ran w (largest (priority_of s.dispatcher) s.dispatcher.placed)).answer (words.ran w (largest (priority_of s.dispatcher) s.dispatcher.placed)).words out))
           (cond b (gives (idle_answer s.dispatcher) s) (gives (Run (next s.dispatcher)) (with_dispatcher s (ran s.dispatcher (next s.dispatcher)))))
@@ -137,7 +139,7 @@ module _ (w : List ℕ) (s : State) (a : Agree w s) (v : Valid s) (out : List �
       current : s.limits.threads ≤ length out → (b : Bool)
           → Dispatches (cond b
           (cond (eqb (largest (priority_of s.dispatcher) s.dispatcher.placed) 0)
-          (cond (next_time w).some (words.told (answer.AdvanceTo (next_time w).at) w out)
+          (cond (is_some (next_time w)) (words.told (answer.AdvanceTo (unwrap_or (next_time w) 0)) w out)
           (cond (eqb (listed_to w) 0) (words.told answer.Finished w (listed w out)) (words.told (answer.Deadlocked (listed_to w)) w (listed w out))))
           (words.told (words.ran w (largest (priority_of s.dispatcher) s.dispatcher.placed)).answer (words.ran w (largest (priority_of s.dispatcher) s.dispatcher.placed)).words out))
           (words.told (answer.Run s.dispatcher.current) w out))

@@ -10,7 +10,8 @@ use native.Mathlib.Decide.{dec_le}
 use native.Mathlib.Nat.{min-eq_left, min-eq_right}
 use borrow.Author.Tests.{leb-true, leb-false}
 use lib.Dec.{leb}
-use Rattle.dispatcher.specs.declared.dispatch.Due.{Due}
+use Rattle.std.specs.Prelude as code
+use Rattle.std.specs.Prelude.{Some, None}
 use Rattle.dispatcher.specs.Dispatch.{sooner, due_at}
 use Rattle.model.specs.Lists.{Mem, given}
 use Rattle.model.specs.Step.{smallest}
@@ -55,34 +56,34 @@ least-smallest (x ∷ xs) = go (smallest xs) (least-smallest xs)
 
 -- ---- the code's
 
--- what a `Due` says
-abbrev pub due_of : Due → Option ℕ
-due_of d = cond d.some (some d.at) none
+-- the soonest time that a walk has seen, if any
+abbrev pub Seen : Type 0
+Seen = code.Option ℕ
+
+-- the same as the log has it
+abbrev pub due_of : Seen → Option ℕ
+due_of None = none
+due_of (Some t) = some t
 
 -- one time more
-pub least-sooner : (P : ℕ → Type 0) (d : Due) (t : ℕ) → Least P (due_of d) → Least (λ x. P x ⊎ (some t ≡ some x)) (due_of (sooner d 1 t))
+pub least-sooner : (P : ℕ → Type 0) (d : Seen) (t : ℕ) → Least P (due_of d) → Least (λ x. P x ⊎ (some t ≡ some x)) (due_of (sooner d 1 t))
 unfolding sooner due_at
-least-sooner P d t = go d.some refl
+least-sooner P None t h = (inr refl, below)
   where
-    go : (b : Bool) → d.some ≡ b → Least P (cond b (some d.at) none)
-        → Least (λ x. P x ⊎ (some t ≡ some x)) (due_of (cond b (cond (leb d.at t) d (record { some = true; at = t })) (record { some = true; at = t })))
-    go true q h = by (leb d.at t) refl
-      where
-        below : (m : ℕ) → m ≤ d.at → m ≤ t → (x : ℕ) → P x ⊎ (some t ≡ some x) → m ≤ x
-        below m a b x (inl p) = omega (arith, h.1 x p)
-        below m a b x (inr e) = omega (arith, some_same t x e)
+    below : (x : ℕ) → P x ⊎ (some t ≡ some x) → t ≤ x
+    below x (inl p) = absurd (h x p)
+    below x (inr e) = omega (arith, some_same t x e)
+least-sooner P (Some s) t h = by (leb s t) refl
+  where
+    below : (m : ℕ) → m ≤ s → m ≤ t → (x : ℕ) → P x ⊎ (some t ≡ some x) → m ≤ x
+    below m a b x (inl p) = omega (arith, h.1 x p)
+    below m a b x (inr e) = omega (arith, some_same t x e)
 
-        by : (c : Bool) → leb d.at t ≡ c → Least (λ x. P x ⊎ (some t ≡ some x)) (due_of (cond c d (record { some = true; at = t })))
-        by true r = subst (λ (b : Bool). Least (λ x. P x ⊎ (some t ≡ some x)) (cond b (some d.at) none)) (sym q) (inl h.0, below d.at (omega arith) (leb-true d.at t r))
-        by false r = (inr refl, below t (let z = leb-false d.at t r in omega arith) (omega arith))
-    go false q h = (inr refl, below)
-      where
-        below : (x : ℕ) → P x ⊎ (some t ≡ some x) → t ≤ x
-        below x (inl p) = absurd (h x p)
-        below x (inr e) = omega (arith, some_same t x e)
+    by : (c : Bool) → leb s t ≡ c → Least (λ x. P x ⊎ (some t ≡ some x)) (due_of (cond c (Some s) (Some t)))
+    by true r = (inl h.0, below s (omega arith) (leb-true s t r))
+    by false r = (inr refl, below t (let z = leb-false s t r in omega arith) (omega arith))
 
--- or perhaps one
-pub least-perhaps : (P : ℕ → Type 0) (d : Due) (o : Option ℕ) → Least P (due_of d) → Least (λ x. P x ⊎ (o ≡ some x)) (due_of (given o d (λ t. sooner d 1 t)))
+pub least-perhaps : (P : ℕ → Type 0) (d : Seen) (o : Option ℕ) → Least P (due_of d) → Least (λ x. P x ⊎ (o ≡ some x)) (due_of (given o d (λ t. sooner d 1 t)))
 least-perhaps P d none h = least_on P (λ x. P x ⊎ (none ≡ some x)) (λ x p. inl p) back (due_of d) h
   where
     back : (x : ℕ) → P x ⊎ (none ≡ some x) → P x

@@ -14,7 +14,6 @@ use Rattle.words.specs.Layout.{entry_at}
 use Rattle.chains.specs.Ready.{waiters_chain}
 use Rattle.objects.specs.Objects.{object_count}
 use Rattle.wakes.specs.Wake as code
-use Rattle.dispatcher.specs.declared.dispatch.Due.{Due}
 use Rattle.dispatcher.specs.Dispatch.{sooner, soonest}
 use Rattle.dispatcher.specs.TimerDue.{is_awaited, timer_counts, due_with, soonest_timer_in, soonest_timer, next_time}
 use Rattle.images.specs.declared.Timer.{Timer}
@@ -35,7 +34,7 @@ use Rattle.agreement.proofs.Places.{entry_place}
 use Rattle.agreement.proofs.Headers.{objects-few}
 use Rattle.agreement.proofs.Lookups.{base-is, object-count-is, row-kind}
 use Rattle.agreement_wakes.proofs.Waiters.{waits-on-is}
-use Rattle.agreement_threads.proofs.Least.{Least, due_of, least_on, least-same, least-smallest, least-perhaps, Among, among-mem, least_step, least-stop}
+use Rattle.agreement_threads.proofs.Least.{Least, Seen, due_of, least_on, least-same, least-smallest, least-perhaps, Among, among-mem, least_step, least-stop}
 use Rattle.agreement_threads.proofs.Times.{counted_due, due-among, among-due, deadline_at, least-deadline, waiter-thread, thread-waiter}
 
 -- ---- whether some thread waits
@@ -92,7 +91,7 @@ module _ (w : List ℕ) (s : State) (holder : ℕ → ℕ) (active : ℕ) (a : A
       either true false = refl
       either false g = refl
 
-  looked : (p : ℕ) (o : Object) → is_empty (waiting_numbers s.dispatcher) ≡ false → Row w p (object_row o) → (e : Due) → due_with w e p ≡ given (counted_due s.dispatcher o) e (λ t. sooner e 1 t)
+  looked : (p : ℕ) (o : Object) → is_empty (waiting_numbers s.dispatcher) ≡ false → Row w p (object_row o) → (e : Seen) → due_with w e p ≡ given (counted_due s.dispatcher o) e (λ t. sooner e 1 t)
   unfolding due_with timer_counts
   looked p o one r e = on-timer (λ due. due_with w e p ≡ given due e (λ t. sooner e 1 t)) o (λ n. simp (r 1 (kind_of o) (row-kind o), n)) λ t q.
       let z = subst (λ (y : Object). Row w p (object_row y)) q r in
@@ -106,7 +105,7 @@ module _ (w : List ℕ) (s : State) (holder : ℕ → ℕ) (active : ℕ) (a : A
 
   -- ---- the walk over the table
 
-  walked : (P : ℕ → Type 0) (ys : List Object) (i : ℕ) (e : Due) → is_empty (waiting_numbers s.dispatcher) ≡ false
+  walked : (P : ℕ → Type 0) (ys : List Object) (i : ℕ) (e : Seen) → is_empty (waiting_numbers s.dispatcher) ≡ false
       → ((j : ℕ) (o : Object) → nth ys j ≡ some o → Row w (entry_at (objects_from s.limits) (i + j)) (object_row o))
       → Least P (due_of e) → Least (λ x. P x ⊎ Among (counted_due s.dispatcher) ys x) (due_of (soonest_timer_in (length ys) w e (objects_from s.limits) i))
   unfolding soonest_timer_in
@@ -115,7 +114,7 @@ module _ (w : List ℕ) (s : State) (holder : ℕ → ℕ) (active : ℕ) (a : A
       least_step (counted_due d) P o ys (due_of (soonest_timer_in (length ys) w (due_with w e (entry_at base i)) base (i + 1)))
       (walked (λ x. P x ⊎ (counted_due d o ≡ some x)) ys (i + 1) (due_with w e (entry_at base i)) one
       (λ j x q. subst (λ (k : ℕ). Row w (entry_at base k) (object_row x)) (let z : i + suc j ≡ i + 1 + j = omega arith in z) (rows (suc j) x q))
-      (subst (λ (f : Due). Least (λ x. P x ⊎ (counted_due d o ≡ some x)) (due_of f))
+      (subst (λ (f : Seen). Least (λ x. P x ⊎ (counted_due d o ≡ some x)) (due_of f))
       (sym (looked (entry_at base i) o one (subst (λ (k : ℕ). Row w (entry_at base k) (object_row o)) (let z : i + 0 ≡ i = omega arith in z) (rows 0 o refl)) e))
       (least-perhaps P e (counted_due d o) h)))
 

@@ -11,7 +11,6 @@ use lib.ListN.{get_or, length}
 use Rattle.words.specs.Layout as at
 use Rattle.chains.specs.Chain.{next_of}
 use Rattle.chains.specs.Ready.{waiters_chain}
-use Rattle.dispatcher.specs.declared.dispatch.Due.{Due}
 use Rattle.dispatcher.specs.Dispatch.{sooner, due_after, soonest_in, soonest, no_due}
 use Rattle.images.specs.declared.Timer.{Timer}
 use Rattle.model.specs.Lists.{Mem, member, keep, given}
@@ -28,7 +27,7 @@ use Rattle.agreement.specs.Records.{timed}
 use Rattle.agreement.specs.Agree.{Agreeing}
 use Rattle.agreement.proofs.Headers.{threads-few}
 use Rattle.agreement.proofs.Lookups.{timed-is, deadline-is}
-use Rattle.agreement_threads.proofs.Least.{Least, due_of, least_on, least-perhaps, Among, among-mem, mem-among, least_step, least-stop}
+use Rattle.agreement_threads.proofs.Least.{Least, Seen, due_of, least_on, least-perhaps, Among, among-mem, mem-among, least_step, least-stop}
 
 -- ---- the log's lists
 
@@ -117,7 +116,7 @@ module _ (w : List ℕ) (s : State) (holder : ℕ → ℕ) (active : ℕ) (a : A
   deadline_at i = thread_deadline (thread_at s.dispatcher.threads i)
 
   -- a waiter's deadline is looked at, if it has one
-  looked : (y : ℕ) → Mem y s.dispatcher.waiters → (d : Due) → due_after w d y ≡ given (deadline_at y) d (λ t. sooner d 1 t)
+  looked : (y : ℕ) → Mem y s.dispatcher.waiters → (d : Seen) → due_after w d y ≡ given (deadline_at y) d (λ t. sooner d 1 t)
   unfolding due_after sooner
   looked y m d = go (status_of s.dispatcher y) refl (sym (exact y) ∙ mem-member y s.dispatcher.waiters m)
     where
@@ -137,12 +136,12 @@ module _ (w : List ℕ) (s : State) (holder : ℕ → ℕ) (active : ℕ) (a : A
           by x.deadline (timed-is w s holder active a y h.0 h.1 x e) (deadline-is w s holder active a y h.0 h.1 x e)
           ∙ ap (λ (z : Status). given (wait_of z).deadline d (λ t. sooner d 1 t)) (sym e)
 
-  walked : (P : ℕ → Type 0) (ys : List ℕ) → ((y : ℕ) → Mem y ys → Mem y s.dispatcher.waiters) → (d : Due) → Least P (due_of d) → Least (λ x. P x ⊎ Among deadline_at ys x) (due_of (along (due_after w) d ys))
+  walked : (P : ℕ → Type 0) (ys : List ℕ) → ((y : ℕ) → Mem y ys → Mem y s.dispatcher.waiters) → (d : Seen) → Least P (due_of d) → Least (λ x. P x ⊎ Among deadline_at ys x) (due_of (along (due_after w) d ys))
   walked P [] all d h = least-stop deadline_at P (due_of d) h
   walked P (y ∷ ys) all d h =
       least_step deadline_at P y ys (due_of (along (due_after w) (due_after w d y) ys))
       (walked (λ x. P x ⊎ (deadline_at y ≡ some x)) ys (λ z m. all z (inr m)) (due_after w d y)
-      (subst (λ (e : Due). Least (λ x. P x ⊎ (deadline_at y ≡ some x)) (due_of e)) (sym (looked y (all y (inl refl)) d)) (least-perhaps P d (deadline_at y) h)))
+      (subst (λ (e : Seen). Least (λ x. P x ⊎ (deadline_at y ≡ some x)) (due_of e)) (sym (looked y (all y (inl refl)) d)) (least-perhaps P d (deadline_at y) h)))
 
   soonest-along : soonest w ≡ along (due_after w) no_due s.dispatcher.waiters
   unfolding soonest soonest_in
@@ -154,7 +153,7 @@ module _ (w : List ℕ) (s : State) (holder : ℕ → ℕ) (active : ℕ) (a : A
   pub least-deadline : Least (λ x. Among deadline_at s.dispatcher.waiters x) (due_of (soonest w))
   unfolding no_due
   least-deadline =
-      subst (λ (d : Due). Least (λ x. Among deadline_at s.dispatcher.waiters x) (due_of d)) (sym soonest-along)
+      subst (λ (d : Seen). Least (λ x. Among deadline_at s.dispatcher.waiters x) (due_of d)) (sym soonest-along)
       (least_on (λ x. ⊥ ⊎ Among deadline_at s.dispatcher.waiters x) (λ x. Among deadline_at s.dispatcher.waiters x) out (λ x m. inr m)
       (due_of (along (due_after w) no_due s.dispatcher.waiters))
       (walked (λ x. ⊥) s.dispatcher.waiters (λ y m. m) no_due (λ x e. e)))

@@ -14,8 +14,8 @@ use Rattle.threads.specs.declared.Thread as stored
 use Rattle.threads.specs.Thread as words
 use Rattle.waits.specs.Lists.{kind_in, key_in}
 use Rattle.dispatcher.specs.declared.read.ThreadView.{ThreadView}
-use Rattle.dispatcher.specs.declared.read.ThreadAnswer.TheVariants as read
-use Rattle.dispatcher.specs.declared.read.PlaceAnswer.TheVariants as object
+use Rattle.dispatcher.specs.ThreadAnswer as read
+use Rattle.dispatcher.specs.PlaceAnswer as object
 use Rattle.dispatcher.specs.Dispatch as code
 use Rattle.dispatcher.specs.Read.{waited_count, wait_word, view_of, thread_read, threads_at, waited_object}
 use Rattle.model.specs.Lists.{nth, given}

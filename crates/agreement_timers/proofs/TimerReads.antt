@@ -14,7 +14,7 @@ use Rattle.objects.specs.Objects.{object_count, place_of}
 use Rattle.timers.specs.Record as record_of
 use Rattle.timers.specs.Record.{is_inserted, first_in}
 use Rattle.timers.specs.Reads as words
-use Rattle.timers.specs.declared.TimerAnswer.TheVariants as answer
+use Rattle.timers.specs.TimerAnswer as answer
 use Rattle.call_answers.specs.Told.{told, told_timer}
 use Rattle.model.specs.Lists.{nth, first_of, present, given}
 use Rattle.model.specs.State.{State, Object, timer}

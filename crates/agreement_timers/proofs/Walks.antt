@@ -13,7 +13,7 @@ use Rattle.words.specs.Layout.{entry_at}
 use Rattle.timers.specs.Record as words
 use Rattle.timers.specs.Record.{is_timer, first_in}
 use Rattle.timers.specs.Reads.{timer_answer, is_nth, passed_to, nth_in}
-use Rattle.timers.specs.declared.TimerAnswer.TheVariants as answer
+use Rattle.timers.specs.TimerAnswer as answer
 use Rattle.call_answers.specs.Told.{told_timer}
 use Rattle.model.specs.Lists.{nth, first_of, given}
 use Rattle.model.specs.State.{Object, mutex, event, timer}

@@ -1,6 +1,9 @@
 // What a call answers: its Rust result, or the number of its refusal.
 #![tactic(auto)]
 
+pub mod error;
+pub mod told;
+
 #[derive(Clone, Copy)]
 pub enum Answer {
     // The call is refused, by a number of document 01's table.
@@ -27,3 +30,7 @@ pub enum Answer {
         signaled: bool,
     },
 }
+
+// The number of a thread, from 1 on.
+#[derive(Clone, Copy, Debug, PartialEq, Eq)]
+pub struct ThreadId(pub u64);

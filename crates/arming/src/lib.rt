@@ -1,18 +1,21 @@
 // Timers set and cancelled.
 #![tactic(auto)]
 
-ghost use Rattle.std.specs.Prelude.{◌≡◌, ◌+◌, ◌<◌, get_or};
+ghost use Rattle.std.specs.Prelude.{◌≡◌, ◌+◌, ◌<◌, get_or, IfOk};
+ghost use Rattle.answers.specs.declared.Answer.TheVariants as answer;
+ghost use Rattle.answers.specs.Errors.{refusal, answer_of};
 ghost use Rattle.answers.specs.Outcome.{outcome};
-ghost use Rattle.arming.specs.Arm.{named_elsewhere, new_refusal, former_busy, set_refusal, named, unnamed, setting_of, setting_put, armed, timer_set, same_word, own_origin, own_work, own_queued, withdrawn_own, disarmed, timer_cancelled, timer_set_signed};
+ghost use Rattle.words.specs.Layout as at;
+ghost use Rattle.objects.specs.Objects.{place_of};
+ghost use Rattle.arming.specs.Arm.{largest, named_elsewhere, new_refusal, former_busy, set_refusal, named, unnamed, setting_of, setting_put, armed, timer_set, same_word, own_origin, own_work, own_queued, withdrawn_own, disarmed, timer_cancelled, timer_set_signed};
 
-use answers::Answer;
+use answers::error::SchedulerError;
+use objects::found;
 use timers::record;
 use words::layout;
 
-pub mod signed;
-
 // What a timer is set to. `absolute` is 0 or 1; `arm` is how many times the timer has been set.
-#[derive(Clone, Copy)]
+#[derive(Clone, Copy, Debug, PartialEq, Eq)]
 pub struct Setting {
     pub due: u64,
     pub absolute: u64,
@@ -24,112 +27,105 @@ pub struct Setting {
 // ---- set_timer
 
 // Whether the DPC at place `at` is had by an inserted timer other than this one.
+#[tactic(auto, unfolding(crate::specs::Arm::named_elsewhere))]
 fn is_named_elsewhere(w: &[u64], at: usize, address: u64) -> bool
     ensures { result ≡ named_elsewhere w.now at address }
 {
     let holder = words::get_in(w, at, layout::NAMED_BY);
-    if holder == 0 {
-        return false;
-    }
-    holder != address
+    holder != 0 && holder != address
 }
 
-// What the DPC that the timer is to have refuses; 0 is no DPC.
-fn new_refusal(w: &[u64], address: u64, dpc: u64) -> u64
-    ensures { result ≡ new_refusal w.now address dpc }
+// The DPC that the timer is to have; 0 is no DPC.
+#[tactic(auto, unfolding(crate::specs::Arm::new_refusal))]
+fn check_new(w: &[u64], address: u64, dpc: u64) -> Result<(), SchedulerError>
+    ensures { refusal result ≡ new_refusal w.now address dpc }
 {
     if dpc == 0 {
-        return 0;
+        return Ok(());
     }
-    let at = objects::find_dpc(w, dpc);
-    if at == 0 {
-        return 2;
-    }
+    let at = found::dpc(w, dpc).ok_or(SchedulerError::Unknown)?;
     if is_named_elsewhere(w, at, address) {
-        return 18;
+        return Err(SchedulerError::Named);
     }
     if record::is_busy(w, dpc) {
-        return 19;
+        return Err(SchedulerError::Busy);
     }
-    0
+    Ok(())
 }
 
 // Whether the timer at place `at`, which is no place where it is 0, had a DPC that is busy.
+#[tactic(auto, unfolding(crate::specs::Arm::former_busy))]
 fn is_former_busy(w: &[u64], at: usize) -> bool
     ensures { result ≡ former_busy w.now at }
 {
-    if at == 0 {
-        return false;
-    }
     let dpc = words::get_in(w, at, layout::TIMER_DPC);
-    if dpc == 0 {
-        return false;
-    }
-    record::is_busy(w, dpc)
+    at != 0 && dpc != 0 && record::is_busy(w, dpc)
 }
 
-fn set_refusal(w: &[u64], address: u64, period: i32, dpc: u64) -> u64
-    ensures { result ≡ set_refusal w.now address period dpc }
+// Where the timer stands.
+#[tactic(auto, unfolding(crate::specs::Arm::set_refusal))]
+fn check_set(w: &[u64], address: u64, period: i32, dpc: u64) -> Result<usize, SchedulerError>
+    ensures refused { refusal result ≡ set_refusal w.now address period dpc }
+    ensures place { IfOk result (λ place. place ≡ place_of w.now 2 address) }
+    ensures arm { IfOk result (λ place. get_or w.now (place + at.arm) 0 < largest) }
 {
-    if signed::is_negative_period(period) {
-        return 17;
+    if period < 0 {
+        return Err(SchedulerError::NegativePeriod);
     }
-    let refusal = new_refusal(w, address, dpc);
-    if refusal != 0 {
-        return refusal;
-    }
+    check_new(w, address, dpc)?;
     let at = objects::place_of(w, objects::TIMER, address);
     if is_former_busy(w, at) {
-        return 19;
+        return Err(SchedulerError::Busy);
     }
     if at == 0 {
-        return 2;
+        return Err(SchedulerError::Unknown);
     }
     if words::get_in(w, at, layout::ARM) == u64::MAX {
-        return 24;
+        return Err(SchedulerError::CountOverflow);
     }
-    0
+    Ok(at)
 }
 
 // The DPC said to be had by the inserted timer `holder`, or by none where that is 0.
+#[tactic(auto, unfolding(crate::specs::Arm::named))]
 fn name(w: &mut [u64], dpc: u64, holder: u64)
     ensures { w.new ≡ named w.old dpc holder }
 {
     if dpc == 0 {
         return;
     }
-    let at = objects::find_dpc(w, dpc);
-    if at == 0 {
-        return;
+    if let Some(at) = found::dpc(w, dpc) {
+        words::put_in(w, at, layout::NAMED_BY, holder);
     }
-    words::put_in(w, at, layout::NAMED_BY, holder);
 }
 
 // The DPC of the timer at place `at`, if it is inserted, had by none.
+#[tactic(auto, unfolding(crate::specs::Arm::unnamed))]
 pub fn unname(w: &mut [u64], at: usize)
     ensures { w.new ≡ unnamed w.old at }
 {
-    if !record::is_inserted(w, at) {
-        return;
+    if record::is_inserted(w, at) {
+        let dpc = words::get_in(w, at, layout::TIMER_DPC);
+        name(w, dpc, 0);
     }
-    let dpc = words::get_in(w, at, layout::TIMER_DPC);
-    name(w, dpc, 0);
 }
 
 // What the timer at place `at` is set to, once more than it has been.
+#[tactic(auto, unfolding(crate::specs::Arm::setting_of))]
 fn setting_of(w: &[u64], at: usize, due: u64, absolute: bool, period: i32, dpc: u64) -> Setting
     requires { get_or w.now (at + 10) 0 < 18446744073709551615 }
     ensures { result ≡ setting_of w.now at due absolute period dpc }
 {
     Setting {
         due,
-        absolute: record::flag(absolute),
-        period: signed::whole_period(period),
+        absolute: u64::from(absolute),
+        period: u64::try_from(period).unwrap_or(0),
         dpc,
         arm: words::get_in(w, at, layout::ARM) + 1,
     }
 }
 
+#[tactic(auto, unfolding(crate::specs::Arm::setting_put))]
 fn put_setting(w: &mut [u64], at: usize, s: Setting)
     ensures { w.new ≡ setting_put w.old at s }
 {
@@ -143,6 +139,7 @@ fn put_setting(w: &mut [u64], at: usize, s: Setting)
 }
 
 // The timer at place `at` inserted, and both its former and its new DPC told.
+#[tactic(auto, unfolding(crate::specs::Arm::armed))]
 fn arm(w: &mut [u64], at: usize, address: u64, s: Setting)
     ensures { w.new ≡ armed w.old at address s }
 {
@@ -152,6 +149,7 @@ fn arm(w: &mut [u64], at: usize, address: u64, s: Setting)
 }
 
 // Answers whether the timer was inserted already.
+#[tactic(auto, unfolding(crate::specs::Arm::timer_set))]
 pub fn set_timer(
     w: &mut [u64],
     address: u64,
@@ -159,23 +157,20 @@ pub fn set_timer(
     absolute: bool,
     period: i32,
     dpc: u64,
-) -> Answer
-    ensures { outcome result w.new ≡ timer_set w.old address due absolute period dpc }
+) -> Result<bool, SchedulerError>
+    ensures { outcome (answer_of answer.Flag result) w.new ≡ timer_set w.old address due absolute period dpc }
 {
-    let refusal = set_refusal(w, address, period, dpc);
-    if refusal != 0 {
-        return Answer::Refused(refusal);
-    }
-    let at = objects::place_of(w, objects::TIMER, address);
+    let at = check_set(w, address, period, dpc)?;
     let before = record::is_inserted(w, at);
     let s = setting_of(w, at, due, absolute, period, dpc);
     arm(w, at, address, s);
-    Answer::Flag(before)
+    Ok(before)
 }
 
 // ---- cancel_timer
 
 // Whether word `k` behind place `a` and word `m` behind place `b` are the same.
+#[tactic(auto, unfolding(crate::specs::Arm::same_word))]
 fn is_same(w: &[u64], a: usize, k: usize, b: usize, m: usize) -> bool
     ensures { result ≡ same_word w.now (a + k) (b + m) }
 {
@@ -183,70 +178,56 @@ fn is_same(w: &[u64], a: usize, k: usize, b: usize, m: usize) -> bool
 }
 
 // Whether the work of the DPC at place `place` bears the key, the arm and the initialization of the timer at place `at`.
+#[tactic(auto, unfolding(crate::specs::Arm::own_origin))]
 fn is_own_origin(w: &[u64], at: usize, place: usize) -> bool
     ensures { result ≡ own_origin w.now at place }
 {
-    if !is_same(w, place, layout::ORIGIN_TIMER, at, layout::KEY) {
-        return false;
-    }
-    if !is_same(w, place, layout::ORIGIN_ARM, at, layout::ARM) {
-        return false;
-    }
-    is_same(
-        w,
-        place,
-        layout::ORIGIN_INITIALIZATION,
-        at,
-        layout::INITIALIZATION,
-    )
+    is_same(w, place, layout::ORIGIN_TIMER, at, layout::KEY)
+        && is_same(w, place, layout::ORIGIN_ARM, at, layout::ARM)
+        && is_same(
+            w,
+            place,
+            layout::ORIGIN_INITIALIZATION,
+            at,
+            layout::INITIALIZATION,
+        )
 }
 
 // Whether the work of the DPC at place `place` is queued and came from the timer at place `at`.
+#[tactic(auto, unfolding(crate::specs::Arm::own_work))]
 fn is_own_work(w: &[u64], at: usize, place: usize) -> bool
     ensures { result ≡ own_work w.now at place }
 {
-    if words::get_in(w, place, layout::PHASE) != 1 {
-        return false;
-    }
-    if words::get_in(w, place, layout::ORIGIN) != 1 {
-        return false;
-    }
-    is_own_origin(w, at, place)
+    words::get_in(w, place, layout::PHASE) == dpc_queue::QUEUED
+        && words::get_in(w, place, layout::ORIGIN) == 1
+        && is_own_origin(w, at, place)
 }
 
 // Whether the timer at place `at` is inserted under a policy with a DPC whose queued work is its own.
+#[tactic(auto, unfolding(crate::specs::Arm::own_queued))]
 fn is_own_queued(w: &[u64], at: usize) -> bool
     ensures { result ≡ own_queued w.now at }
 {
-    if !record::is_inserted(w, at) {
-        return false;
-    }
-    if words::get(w, layout::POLICY) == 0 {
-        return false;
-    }
     let dpc = words::get_in(w, at, layout::TIMER_DPC);
-    if dpc == 0 {
-        return false;
-    }
-    let place = objects::find_dpc(w, dpc);
-    if place == 0 {
-        return false;
-    }
-    is_own_work(w, at, place)
+    record::is_inserted(w, at)
+        && words::get(w, layout::POLICY) != 0
+        && dpc != 0
+        && found::dpc(w, dpc).is_some_and(|place| is_own_work(w, at, place))
 }
 
 // The work of the DPC of the timer at place `at` taken out of the queue, where it is the timer's own.
+#[tactic(auto, unfolding(crate::specs::Arm::withdrawn_own))]
 fn withdraw_own(w: &mut [u64], at: usize, own: bool)
     ensures { w.new ≡ withdrawn_own w.old at own }
 {
-    if !own {
-        return;
+    if own {
+        let n = dpcs::record::number_of(w, words::get_in(w, at, layout::TIMER_DPC));
+        dpc_queue::withdraw(w, n);
     }
-    let n = dpcs::record::number_of(w, words::get_in(w, at, layout::TIMER_DPC));
-    dpc_queue::withdraw(w, n);
 }
 
 // The timer at place `at` inserted no more.
+#[tactic(auto, unfolding(crate::specs::Arm::disarmed))]
 fn disarm(w: &mut [u64], at: usize)
     ensures { w.new ≡ disarmed w.old at }
 {
@@ -255,36 +236,42 @@ fn disarm(w: &mut [u64], at: usize)
 }
 
 // Answers whether the timer was inserted, whatever becomes of its work.
-pub fn cancel_timer(w: &mut [u64], address: u64) -> Answer
-    ensures { outcome result w.new ≡ timer_cancelled w.old address }
+#[tactic(auto, unfolding(crate::specs::Arm::timer_cancelled))]
+pub fn cancel_timer(w: &mut [u64], address: u64) -> Result<bool, SchedulerError>
+    ensures { outcome (answer_of answer.Flag result) w.new ≡ timer_cancelled w.old address }
 {
-    let at = objects::place_of(w, objects::TIMER, address);
-    if at == 0 {
-        return Answer::Refused(2);
-    }
+    let at = found::object(w, objects::TIMER, address).ok_or(SchedulerError::Unknown)?;
     let inserted = record::is_inserted(w, at);
     let own = is_own_queued(w, at);
     withdraw_own(w, at, own);
     disarm(w, at);
-    Answer::Flag(inserted)
+    Ok(inserted)
 }
 
 // ---- a signed due, as KeSetTimerEx takes it
 
 // A negative due is the time and its magnitude, relative; any other is the due itself, absolute.
-pub fn set_timer_signed(w: &mut [u64], address: u64, due: i64, period: i32, dpc: u64) -> Answer
-    ensures { outcome result w.new ≡ timer_set_signed w.old address due period dpc }
+#[tactic(auto, unfolding(crate::specs::Arm::timer_set_signed, crate::specs::Arm::set_from))]
+pub fn set_timer_signed(
+    w: &mut [u64],
+    address: u64,
+    due: i64,
+    period: i32,
+    dpc: u64,
+) -> Result<bool, SchedulerError>
+    ensures { outcome (answer_of answer.Flag result) w.new ≡ timer_set_signed w.old address due period dpc }
 {
-    if signed::is_negative_period(period) {
-        return Answer::Refused(17);
+    if period < 0 {
+        return Err(SchedulerError::NegativePeriod);
     }
-    if signed::is_negative_due(due) {
-        let time = words::get(w, layout::NOW);
-        let ticks = signed::due_magnitude(due);
-        if u64::MAX - time < ticks {
-            return Answer::Refused(13);
+    match u64::try_from(due) {
+        Ok(due) => set_timer(w, address, due, true, period, dpc),
+        Err(_) => {
+            let time = words::get(w, layout::NOW);
+            let due = time
+                .checked_add(due.unsigned_abs())
+                .ok_or(SchedulerError::DueOverflow)?;
+            set_timer(w, address, due, false, period, dpc)
         }
-        return set_timer(w, address, time + ticks, false, period, dpc);
     }
-    set_timer(w, address, signed::whole_due(due), true, period, dpc)
 }

@@ -2,18 +2,12 @@
 use Rattle.std.specs.Prelude.{ℕ, List, [], take}
 use Rattle.answers.specs.declared.Answer as code
 use Rattle.answers.specs.declared.Answer.TheVariants as answer
-use Rattle.dispatcher.specs.declared.read.PlaceAnswer as code-object
-use Rattle.dispatcher.specs.declared.read.PlaceAnswer.TheVariants as object
-use Rattle.dpc_work.specs.declared.WorkAnswer as code-work
-use Rattle.dpc_work.specs.declared.WorkAnswer.TheVariants as work
-use Rattle.dpc_reads.specs.declared.DpcAnswer as code-dpc
-use Rattle.dpc_reads.specs.declared.DpcAnswer.TheVariants as dpc
-use Rattle.dpc_reads.specs.declared.PolicyAnswer as code-policy
-use Rattle.dpc_reads.specs.declared.PolicyAnswer.TheVariants as policy
-use Rattle.dpc_reads.specs.declared.CountersAnswer as code-counters
-use Rattle.dpc_reads.specs.declared.CountersAnswer.TheVariants as counters
-use Rattle.timers.specs.declared.TimerAnswer as code-timer
-use Rattle.timers.specs.declared.TimerAnswer.TheVariants as timer
+use Rattle.dispatcher.specs.PlaceAnswer as object
+use Rattle.dpc_work.specs.WorkAnswer as work
+use Rattle.dpc_reads.specs.DpcAnswer as dpc
+use Rattle.dpc_reads.specs.PolicyAnswer as policy
+use Rattle.dpc_reads.specs.CountersAnswer as counters
+use Rattle.timers.specs.TimerAnswer as timer
 use Rattle.model.specs.State.{unselected, cpu0_dispatch}
 use Rattle.model.specs.Answer.{Answer}
 use Rattle.model.specs.Answer as log
@@ -41,31 +35,31 @@ told a = told_with [] a
 
 -- ---- answers with records
 
-abbrev pub told_timer : code-timer.TimerAnswer → Answer
+abbrev pub told_timer : timer.TimerAnswer → Answer
 told_timer (timer.Refused n) = log.Refused n
 told_timer timer.None = log.None
 told_timer (timer.Timer t) = log.TimerIs t
 
-abbrev pub told_dpc : code-dpc.DpcAnswer → Answer
+abbrev pub told_dpc : dpc.DpcAnswer → Answer
 told_dpc (dpc.Refused n) = log.Refused n
 told_dpc dpc.None = log.None
 told_dpc (dpc.Dpc d) = log.DpcIs d
 
-abbrev pub told_work : code-work.WorkAnswer → Answer
+abbrev pub told_work : work.WorkAnswer → Answer
 told_work (work.Refused n) = log.Refused n
 told_work (work.Work w) = log.WorkIs w
 
-abbrev pub told_policy : code-policy.PolicyAnswer → Answer
+abbrev pub told_policy : policy.PolicyAnswer → Answer
 told_policy (policy.Refused n) = log.Refused n
 told_policy policy.Unselected = log.PolicyIs unselected
 told_policy (policy.Cpu0Dispatch first second) = log.PolicyIs (cpu0_dispatch first second)
 
-abbrev pub told_counters : code-counters.CountersAnswer → Answer
+abbrev pub told_counters : counters.CountersAnswer → Answer
 told_counters (counters.Refused n) = log.Refused n
 told_counters (counters.Counters c) =
     log.CountersAre (record { accepted = c.accepted; duplicates = c.duplicates; removed = c.removed; started = c.started; returned = c.returned; restored = c.restored })
 
-abbrev pub told_object : code-object.PlaceAnswer → Answer
+abbrev pub told_object : object.PlaceAnswer → Answer
 told_object (object.Refused n) = log.Refused n
 told_object object.None = log.None
 told_object (object.Object p) = log.ObjectIs (record { kind = p.kind; key = p.key })

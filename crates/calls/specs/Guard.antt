@@ -5,20 +5,20 @@ use Rattle.answers.specs.declared.Answer.TheVariants.{Refused}
 use Rattle.answers.specs.Outcome.{Outcome, outcome}
 use Rattle.dispatcher.specs.Dispatch.{Dispatched, told}
 use Rattle.dispatcher.specs.Dispatched.{dispatched}
-use Rattle.dispatcher.specs.declared.read.ThreadAnswer.{ThreadAnswer}
-use Rattle.dispatcher.specs.declared.read.ThreadAnswer.TheVariants as thread
-use Rattle.dispatcher.specs.declared.read.PlaceAnswer.{PlaceAnswer}
-use Rattle.dispatcher.specs.declared.read.PlaceAnswer.TheVariants as place
+use Rattle.dispatcher.specs.ThreadAnswer.{ThreadAnswer}
+use Rattle.dispatcher.specs.ThreadAnswer as thread
+use Rattle.dispatcher.specs.PlaceAnswer.{PlaceAnswer}
+use Rattle.dispatcher.specs.PlaceAnswer as place
 use Rattle.dpc_work.specs.Work.{Started, start_outcome}
-use Rattle.dpc_work.specs.declared.WorkAnswer.TheVariants as work
-use Rattle.dpc_reads.specs.declared.DpcAnswer.{DpcAnswer}
-use Rattle.dpc_reads.specs.declared.DpcAnswer.TheVariants as dpc
-use Rattle.dpc_reads.specs.declared.PolicyAnswer.{PolicyAnswer}
-use Rattle.dpc_reads.specs.declared.PolicyAnswer.TheVariants as policy
-use Rattle.dpc_reads.specs.declared.CountersAnswer.{CountersAnswer}
-use Rattle.dpc_reads.specs.declared.CountersAnswer.TheVariants as counters
-use Rattle.timers.specs.declared.TimerAnswer.{TimerAnswer}
-use Rattle.timers.specs.declared.TimerAnswer.TheVariants as timer
+use Rattle.dpc_work.specs.WorkAnswer as work
+use Rattle.dpc_reads.specs.DpcAnswer.{DpcAnswer}
+use Rattle.dpc_reads.specs.DpcAnswer as dpc
+use Rattle.dpc_reads.specs.PolicyAnswer.{PolicyAnswer}
+use Rattle.dpc_reads.specs.PolicyAnswer as policy
+use Rattle.dpc_reads.specs.CountersAnswer.{CountersAnswer}
+use Rattle.dpc_reads.specs.CountersAnswer as counters
+use Rattle.timers.specs.TimerAnswer.{TimerAnswer}
+use Rattle.timers.specs.TimerAnswer as timer
 use Rattle.form.specs.Form.{in_form}
 use Rattle.calls.specs.Images.{Imaged, imaged}
 

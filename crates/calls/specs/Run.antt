@@ -5,10 +5,10 @@ use Rattle.answers.specs.declared.Answer as code
 use Rattle.answers.specs.declared.Answer.TheVariants as answer
 use Rattle.dispatcher.specs.Read.{waited_object}
 use Rattle.dispatcher.specs.declared.read.ThreadView.{ThreadView}
-use Rattle.dispatcher.specs.declared.read.ThreadAnswer.{ThreadAnswer}
-use Rattle.dispatcher.specs.declared.read.ThreadAnswer.TheVariants as thread
-use Rattle.dispatcher.specs.declared.read.PlaceAnswer.{PlaceAnswer}
-use Rattle.dispatcher.specs.declared.read.PlaceAnswer.TheVariants as object
+use Rattle.dispatcher.specs.ThreadAnswer.{ThreadAnswer}
+use Rattle.dispatcher.specs.ThreadAnswer as thread
+use Rattle.dispatcher.specs.PlaceAnswer.{PlaceAnswer}
+use Rattle.dispatcher.specs.PlaceAnswer as object
 use Rattle.model.specs.State as state
 use Rattle.model.specs.State.{Named, Status, running, ready, waiting, exited, WaitResult, satisfied, timeout}
 use Rattle.model.specs.Waits.{no_object}

@@ -1,17 +1,26 @@
--- What a command that a match leaves over asks of the scheduler's words.
-use mathlib.Core.Path.{◌≡◌, refl}
+-- What a read answers, and what a command that a match leaves over asks of the scheduler's words.
+use mathlib.Core.Path.{◌≡◌, refl, ap, ◌∙◌}
 use mathlib.Core.List.{List}
-use Rattle.std.specs.Prelude.{Some}
+use Rattle.std.specs.Prelude.{Some, Result}
 use Prim.Native.Nat.{ℕ}
 use mathlib.Core.Bool.{Bool}
 use lib.IntN.{ℤ}
 use Rattle.arch.specs.declared.Architecture.{Architecture}
 use Rattle.images.specs.declared.TimerBacking.{TimerBacking}
+use Rattle.answers.specs.declared.Answer.{Answer}
 use Rattle.answers.specs.declared.Answer.TheVariants as answer
+use Rattle.answers.specs.declared.error.SchedulerError.{SchedulerError}
+use Rattle.answers.specs.Errors.{Tells, answer_of}
+use Rattle.answers.proofs.Converted.{told-is}
 use Rattle.answers.specs.Outcome.{outcome}
 use Rattle.script_lex.specs.declared.command.Command.{Command}
 use Rattle.script_lex.specs.declared.command.Command.TheVariants as command
 use Rattle.commands.specs.Commands.{asked, on_words}
+
+-- a read leaves the words
+pub told-read : {A : Type 0} {R : A → Answer → Type 0} (f : A → Answer) (r : Result A SchedulerError) (a b : Answer) (w : List ℕ)
+    → Tells R r a → ((x : A) (y : Answer) → R x y → y ≡ f x) → answer_of f r ≡ b → outcome a w ≡ outcome b w
+told-read f r a b w t h e = ap (λ (x : Answer). outcome x w) (told-is f r a t h ∙ e)
 
 -- it asks nothing of the scheduler's words, or is a dispatch
 pub record NoWords (c : Command) : Type 0 where

@@ -8,8 +8,8 @@ use Rattle.clock.specs.declared.GuestClock.{GuestClock}
 use Rattle.clock.specs.declared.ClockError.{ClockError}
 use Rattle.clock.specs.declared.Outcome as clock
 use Rattle.clock.specs.Clock.{created, instruction, advance_microseconds, advance100ns, advance_milliseconds, flush_cycles, observe, qpc, tick64, tsc}
-use Rattle.dpc_work.specs.declared.WorkAnswer.{WorkAnswer}
-use Rattle.dpc_work.specs.declared.WorkAnswer.TheVariants as work
+use Rattle.dpc_work.specs.WorkAnswer.{WorkAnswer}
+use Rattle.dpc_work.specs.WorkAnswer as work
 use Rattle.dpc_work.specs.Work.{Started}
 use Rattle.script_lex.specs.declared.command.Command.{Command}
 use Rattle.script_lex.specs.declared.command.Command.TheVariants as command

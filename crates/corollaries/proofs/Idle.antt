@@ -11,6 +11,7 @@ use borrow.Author.Tests.{eqb-true, eqb-false}
 use lib.Dec.{eqb, ltb}
 use lib.ListN.{length, get_or}
 use Rattle.images.specs.declared.Timer.{Timer}
+use Rattle.std.specs.Prelude.{is_some}
 use Rattle.words.specs.Layout as at
 use Rattle.words.specs.Word.{top_bit}
 use Rattle.dispatcher.specs.Dispatch.{Dispatched}
@@ -67,7 +68,7 @@ module _ (w out : List ℕ) where
       (one_of (ltb (length out) (get_or w at.thread_limit 0)) _ _ (stays _ refl)
       (one_of (eqb (get_or w at.current 0) 0) _ _
       (one_of (eqb (top_bit (get_or w at.ready 0)) 0) _ _
-      (one_of (next_time w).some _ _ (stays _ refl) (one_of (eqb (code.listed_to w) 0) _ _ (stays _ refl) (stays _ refl)))
+      (one_of (is_some (next_time w)) _ _ (stays _ refl) (one_of (eqb (code.listed_to w) 0) _ _ (stays _ refl) (stays _ refl)))
       (record { same = λ n. absurd (n _ refl) }))
       (stays _ refl)))
       (stays _ refl)

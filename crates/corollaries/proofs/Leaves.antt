@@ -10,6 +10,7 @@ use lib.ListN.{get_or, length}
 use Rattle.answers.specs.declared.Answer as code
 use Rattle.answers.specs.declared.Answer.TheVariants as answer
 use Rattle.answers.specs.Outcome.{Outcome, outcome, unless, bit}
+use Rattle.std.specs.Prelude.{is_some}
 use Rattle.words.specs.Layout as at
 use Rattle.words.specs.Word.{top_bit}
 use Rattle.objects.specs.Objects.{place_of}
@@ -36,7 +37,7 @@ use Rattle.dpcs.specs.Record.{number_of}
 use Rattle.dpc_queue.specs.Queue.{queued}
 use Rattle.dpc_work.specs.Work as dpcs
 use Rattle.dpc_work.specs.Work.{Started}
-use Rattle.dpc_work.specs.declared.WorkAnswer.TheVariants as work
+use Rattle.dpc_work.specs.WorkAnswer as work
 use Rattle.form.specs.Form.{in_form}
 use Rattle.call_answers.specs.Told.{told, told_with, told_work}
 use Rattle.calls.specs.Guard.{guarded, guarded_dispatch, guarded_start, guarded_image, image_refused}
@@ -120,7 +121,7 @@ module _ (w : List ℕ) where
       one_of out (ltb (length out) (get_or w at.thread_limit 0)) _ _ (stops out)
       (one_of out (eqb (get_or w at.current 0) 0) _ _
       (one_of out (eqb (top_bit (get_or w at.ready 0)) 0) _ _
-      (one_of out (next_time w).some _ _ (runs out _ _ _ refl) (one_of out (eqb (dispatch.listed_to w) 0) _ _ (runs out _ _ _ refl) (runs out _ _ _ refl)))
+      (one_of out (is_some (next_time w)) _ _ (runs out _ _ _ refl) (one_of out (eqb (dispatch.listed_to w) 0) _ _ (runs out _ _ _ refl) (runs out _ _ _ refl)))
       (runs out _ _ _ refl))
       (runs out _ _ _ refl))
 

@@ -1,38 +1,29 @@
 -- The laws of the loops, as the code counts, and the bounds that its calls need.
 use Prim.Native.Nat.{ℕ, zero, suc, ◌+◌, ◌-◌, ◌≤◌, ◌<◌}
+use Rattle.std.specs.Prelude.{Option}
 use native.Mathlib.Omega.{arith}
 use mathlib.Core.List.{List}
 use mathlib.Core.Bool.{Bool, cond, true, false}
 use mathlib.Core.Path.{◌≡◌, refl}
-use lib.ListN.{set}
 use borrow.Author.Tests.{eq-eqb, ne_eqb}
-use Rattle.words.specs.Layout as at
-use Rattle.chains.specs.declared.Chain.{Chain}
-use Rattle.chains.specs.Chain.{first_of, next_of}
-use Rattle.chains.specs.Ready.{ready_chain, waiters_chain, unplaced}
-use Rattle.threads.specs.declared.Thread.{Thread}
-use Rattle.threads.specs.Thread.{thread_of, put_thread}
-use Rattle.answers.specs.declared.Answer.TheVariants as answer
-use Rattle.answers.specs.Outcome.{outcome}
-use Rattle.dispatcher.specs.declared.dispatch.Due.{Due}
-use Rattle.words.specs.Layout.{entry_at}
-use Rattle.dispatcher.specs.TimerDue.{due_with, soonest_timer_in}
-use Rattle.dispatcher.specs.Dispatch.{due_after, soonest_in, ran, is_waiting, noted, noted_to, listed_in, listed_to_in}
+use Rattle.chains.specs.Chain.{next_of}
+use Rattle.chains.specs.Ready.{waiters_chain}
+use Rattle.dispatcher.specs.Dispatch.{due_after, soonest_in, is_waiting, noted, noted_to, listed_in, listed_to_in}
 
 less_one : (k : ℕ) → suc k - 1 ≡ k
 less_one k = omega arith
 
-pub soonest-none : (k : ℕ) (w : List ℕ) (d : Due) (id : ℕ) → k ≤ 0 → soonest_in k w d id ≡ d
+pub soonest-none : (k : ℕ) (w : List ℕ) (d : Option ℕ) (id : ℕ) → k ≤ 0 → soonest_in k w d id ≡ d
 unfolding soonest_in
 soonest-none zero w d id h = refl
 soonest-none (suc k) w d id h = absurd (omega arith)
 
-pub soonest-end : (k : ℕ) (w : List ℕ) (d : Due) (id : ℕ) → id ≡ 0 → soonest_in k w d id ≡ d
+pub soonest-end : (k : ℕ) (w : List ℕ) (d : Option ℕ) (id : ℕ) → id ≡ 0 → soonest_in k w d id ≡ d
 unfolding soonest_in
 soonest-end zero w d id e = refl
 soonest-end (suc k) w d id e = simp (eq-eqb _ _ e)
 
-pub soonest-more : (k : ℕ) (w : List ℕ) (d : Due) (id : ℕ) → 0 < k → (id ≡ 0 → ⊥)
+pub soonest-more : (k : ℕ) (w : List ℕ) (d : Option ℕ) (id : ℕ) → 0 < k → (id ≡ 0 → ⊥)
     → soonest_in k w d id ≡ soonest_in (k - 1) w (due_after w d id) (next_of w waiters_chain id)
 unfolding soonest_in
 soonest-more zero w d id h n = absurd (omega arith)
@@ -65,22 +56,3 @@ noted-most w id k = go (is_waiting w id)
     go : (b : Bool) → cond b (k + 1) k ≤ k + 1
     go true = omega arith
     go false = omega arith
-
--- what the code of run_first does, step by step
-pub run-steps : (w : List ℕ) (p : ℕ) (c : Chain) (id : ℕ) (t : Thread) (u v x : List ℕ) → c ≡ ready_chain p → id ≡ first_of w c
-    → t ≡ thread_of w id → u ≡ unplaced w p id → v ≡ put_thread u id (record { priority = t.priority; state = 1; result = t.result; status = t.status })
-    → x ≡ set v at.current id → outcome (answer.Run id) x ≡ ran w p
-unfolding ran
-run-steps w p c id t u v x chain first read out put now = simp (now, put, out, read, first, chain)
-
--- ---- the timers
-
-pub timer-none : (m : ℕ) (w : List ℕ) (d : Due) (base i : ℕ) → m ≤ 0 → soonest_timer_in m w d base i ≡ d
-unfolding soonest_timer_in
-timer-none zero w d base i h = refl
-timer-none (suc m) w d base i h = absurd (omega arith)
-
-pub timer-more : (m : ℕ) (w : List ℕ) (d : Due) (base i : ℕ) → 0 < m → soonest_timer_in m w d base i ≡ soonest_timer_in (m - 1) w (due_with w d (entry_at base i)) base (i + 1)
-unfolding soonest_timer_in
-timer-more zero w d base i h = absurd (omega arith)
-timer-more (suc m) w d base i h = simp (less_one m)

@@ -8,6 +8,7 @@ use lib.Dec.{eqb, ltb}
 use lib.ListN.{length, get_or, set, length-set}
 use lib.Seq.{get_or-set_other}
 use borrow.Author.Tests.{eqb-true}
+use Rattle.std.specs.Prelude.{is_some, unwrap_or}
 use Rattle.words.specs.Word.{top_bit}
 use Rattle.words.specs.Layout as at
 use Rattle.answers.specs.declared.Answer.{Answer}
@@ -60,13 +61,13 @@ finished w out e = rw ((notes (thread_count w) w out 1 0).none e) (untouched ans
 pub dispatch-leaves : (w out : List ℕ) → Left out (dispatched w out)
 unfolding dispatched
 dispatch-leaves w out =
-    go (ltb (length out) (get_or w at.thread_limit 0)) (eqb (get_or w at.current 0) 0) (eqb (top_bit (get_or w at.ready 0)) 0) (next_time w).some (eqb (listed_to w) 0) refl
+    go (ltb (length out) (get_or w at.thread_limit 0)) (eqb (get_or w at.current 0) 0) (eqb (top_bit (get_or w at.ready 0)) 0) (is_some (next_time w)) (eqb (listed_to w) 0) refl
   where
     go : (short none idle timed empty : Bool) → eqb (listed_to w) 0 ≡ empty
         → Left out (cond short (told (answer.Refused 27) w out)
         (cond none
         (cond idle
-        (cond timed (told (answer.AdvanceTo (next_time w).at) w out)
+        (cond timed (told (answer.AdvanceTo (unwrap_or (next_time w) 0)) w out)
         (cond empty (told answer.Finished w (listed w out)) (told (answer.Deadlocked (listed_to w)) w (listed w out))))
         (told (ran w (top_bit (get_or w at.ready 0))).answer (ran w (top_bit (get_or w at.ready 0))).words out))
         (told (answer.Run (get_or w at.current 0)) w out)))

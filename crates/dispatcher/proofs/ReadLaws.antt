@@ -7,9 +7,9 @@ use Rattle.wakes.proofs.WakeLaws.{count_most}
 use Rattle.dispatcher.specs.Dispatch.{is_waiting}
 use Rattle.dispatcher.specs.Read.{waited_count}
 
-pub waited-most : (w : List ℕ) (id : ℕ) → waited_count w id ≤ 64
+pub waited_most : (w : List ℕ) (id : ℕ) → waited_count w id ≤ 64
 unfolding waited_count
-waited-most w id = go (is_waiting w id)
+waited_most w id = go (is_waiting w id)
   where
     go : (b : Bool) → cond b (count_of w id) 0 ≤ 64
     go true = count_most w id

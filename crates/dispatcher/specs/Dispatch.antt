@@ -1,5 +1,5 @@
 -- The parts of a dispatch: the smallest waiting deadline, the first of a queue made current, the waiting numbers, and what a dispatch answers.
-use Rattle.std.specs.Prelude.{Bool, cond, true, false, ℕ, zero, suc, ◌+◌, List, get_or, set, eqb, leb}
+use Rattle.std.specs.Prelude.{Bool, cond, ℕ, zero, suc, ◌+◌, List, get_or, set, eqb, leb, Option, Some, None}
 use Rattle.words.specs.Layout as at
 use Rattle.words.specs.Layout.{thread_at}
 use Rattle.chains.specs.Chain.{first_of, next_of}
@@ -8,28 +8,32 @@ use Rattle.threads.specs.Thread.{thread_of, put_thread, thread_count}
 use Rattle.answers.specs.declared.Answer.{Answer}
 use Rattle.answers.specs.declared.Answer.TheVariants as answer
 use Rattle.answers.specs.Outcome.{Outcome, outcome}
-use Rattle.dispatcher.specs.declared.dispatch.Due.{Due}
 
 -- ---- the smallest waiting deadline
 
-unfoldable pub no_due : Due
-no_due = record { some = false; at = 0 }
+unfoldable pub no_due : Option ℕ
+no_due = None
 
-unfoldable pub due_at : ℕ → Due
-due_at deadline = record { some = true; at = deadline }
+unfoldable pub due_at : ℕ → Option ℕ
+due_at deadline = Some deadline
 
-unfoldable pub sooner : Due → ℕ → ℕ → Due
-sooner d timed deadline = cond (eqb timed 0) d (cond d.some (cond (leb d.at deadline) d (due_at deadline)) (due_at deadline))
+-- the sooner of what was seen, if anything was, and one more
+abbrev pub sooner_of : Option ℕ → ℕ → Option ℕ
+sooner_of None deadline = due_at deadline
+sooner_of (Some at) deadline = cond (leb at deadline) (Some at) (due_at deadline)
 
-unfoldable pub due_after : List ℕ → Due → ℕ → Due
+unfoldable pub sooner : Option ℕ → ℕ → ℕ → Option ℕ
+sooner d timed deadline = cond (eqb timed 0) d (sooner_of d deadline)
+
+unfoldable pub due_after : List ℕ → Option ℕ → ℕ → Option ℕ
 due_after w d id = sooner d (get_or w (thread_at id + at.has_deadline) 0) (get_or w (thread_at id + at.deadline) 0)
 
 -- of at most `k` waiting threads from `id` on
-unfoldable pub soonest_in : ℕ → List ℕ → Due → ℕ → Due
+unfoldable pub soonest_in : ℕ → List ℕ → Option ℕ → ℕ → Option ℕ
 soonest_in zero w d id = d
 soonest_in (suc k) w d id = cond (eqb id 0) d (soonest_in k w (due_after w d id) (next_of w waiters_chain id))
 
-unfoldable pub soonest : List ℕ → Due
+unfoldable pub soonest : List ℕ → Option ℕ
 soonest w = soonest_in 4096 w no_due (first_of w waiters_chain)
 
 -- ---- the first thread of a queue made current; state 1 is running

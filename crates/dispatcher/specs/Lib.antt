@@ -1,5 +1,7 @@
 pub mod Dispatch
-pub mod TimerDue
 pub mod Dispatched
-pub mod Read
 pub mod Left
+pub mod PlaceAnswer
+pub mod Read
+pub mod ThreadAnswer
+pub mod TimerDue

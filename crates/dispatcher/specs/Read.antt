@@ -1,15 +1,16 @@
 -- What is read of a thread, and of what it waits for.
-use Rattle.std.specs.Prelude.{cond, ℕ, ◌+◌, ◌-◌, ◌^◌, List, get_or, leb}
+use Rattle.std.specs.Prelude.{cond, ℕ, ◌+◌, ◌-◌, ◌^◌, List, get_or, leb, Option, Some, None}
 use Rattle.words.specs.Layout as at
 use Rattle.words.specs.Layout.{thread_at}
 use Rattle.threads.specs.Thread.{thread_of, known, count_of, places_at}
 use Rattle.waits.specs.Lists.{kind_in, key_in}
 use Rattle.dispatcher.specs.Dispatch.{is_waiting}
 use Rattle.dispatcher.specs.declared.read.ThreadView.{ThreadView}
-use Rattle.dispatcher.specs.declared.read.ThreadAnswer.{ThreadAnswer}
-use Rattle.dispatcher.specs.declared.read.ThreadAnswer.TheVariants as read
-use Rattle.dispatcher.specs.declared.read.PlaceAnswer.{PlaceAnswer}
-use Rattle.dispatcher.specs.declared.read.PlaceAnswer.TheVariants as object
+use Rattle.dispatcher.specs.ThreadAnswer.{ThreadAnswer}
+use Rattle.dispatcher.specs.ThreadAnswer as read
+use Rattle.dispatcher.specs.declared.read.Place.{Place}
+use Rattle.dispatcher.specs.PlaceAnswer.{PlaceAnswer}
+use Rattle.dispatcher.specs.PlaceAnswer as object
 
 -- A thread that does not wait has no wait, whatever the words of its last one hold.
 
@@ -51,3 +52,13 @@ waited_object w id position =
     (cond (leb (waited_count w id) position) object.None
     (object.Object (record { kind = kind_in w (places_at id) position; key = key_in w (places_at id) position })))
     object.None
+
+-- ---- what a read tells
+
+abbrev pub told_thread : Option ThreadView → ThreadAnswer
+told_thread None = read.None
+told_thread (Some t) = read.Thread t
+
+abbrev pub told_place : Option Place → PlaceAnswer
+told_place None = object.None
+told_place (Some p) = object.Object p

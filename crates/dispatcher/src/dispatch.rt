@@ -1,99 +1,73 @@
 // Dispatch: which thread runs, or what there is to wait for.
-ghost use Rattle.std.specs.Prelude.{◌≡◌, ◌≤◌};
-ghost use Rattle.answers.specs.Outcome.{outcome};
-ghost use Rattle.dispatcher.specs.Dispatched.{dispatched};
-ghost use Rattle.dispatcher.specs.Dispatch.{no_due, sooner, due_after, soonest, ran, is_waiting, noted, noted_to, listed, listed_to, told};
+ghost use Rattle.std.specs.Prelude.{◌≡◌, ◌≤◌, is_some, unwrap_or};
+ghost use Rattle.answers.specs.declared.Answer.TheVariants as answer;
+ghost use Rattle.answers.specs.Errors.{answer_of};
+ghost use Rattle.answers.specs.Outcome.{outcome, bit};
+ghost use Rattle.dispatcher.specs.Dispatched.{dispatched, answered};
+ghost use Rattle.dispatcher.specs.Dispatch.{sooner, due_after, soonest, ran, is_waiting, noted, noted_to, listed, listed_to, told};
 
+use super::outcome::Dispatch;
 use super::timer_due::next_time;
-use answers::Answer;
+use answers::error::SchedulerError;
 use chains::ready;
 use words::layout;
 
-// The smallest deadline seen so far, if any.
-#[derive(Clone, Copy)]
-pub struct Due {
-    pub some: bool,
-    pub at: u64,
-}
-
-fn no_due() -> Due
-    ensures { result ≡ no_due }
+// The sooner of what was seen so far and one more time, if there is any.
+#[tactic(auto, unfolding(crate::specs::Dispatch::sooner, crate::specs::Dispatch::due_at))]
+pub fn sooner(seen: Option<u64>, next: Option<u64>) -> Option<u64>
+    ensures { result ≡ sooner seen (bit (is_some next)) (unwrap_or next 0) }
 {
-    Due { some: false, at: 0 }
-}
-
-// The sooner of what was seen and one more deadline, which there is where `timed` is not 0.
-pub fn sooner(d: Due, timed: u64, deadline: u64) -> Due
-    ensures { result ≡ sooner d timed deadline }
-{
-    if timed == 0 {
-        return d;
-    }
-    if d.some {
-        if d.at <= deadline {
-            return d;
-        }
-        return Due {
-            some: true,
-            at: deadline,
-        };
-    }
-    Due {
-        some: true,
-        at: deadline,
+    match (seen, next) {
+        (Some(a), Some(b)) if b < a => Some(b),
+        (None, _) => next,
+        _ => seen,
     }
 }
 
-fn due_after(w: &[u64], d: Due, id: u64) -> Due
-    ensures { result ≡ due_after w.now d id }
+#[tactic(auto, unfolding(crate::specs::Dispatch::due_after, crate::specs::Dispatch::sooner))]
+fn due_after(w: &[u64], seen: Option<u64>, id: u64) -> Option<u64>
+    ensures { result ≡ due_after w.now seen id }
 {
     let at = layout::thread_at(id);
-    sooner(
-        d,
-        words::get_in(w, at, layout::HAS_DEADLINE),
-        words::get_in(w, at, layout::DEADLINE),
-    )
+    if words::get_in(w, at, layout::HAS_DEADLINE) == 0 {
+        return seen;
+    }
+    sooner(seen, Some(words::get_in(w, at, layout::DEADLINE)))
 }
 
 // The smallest deadline of the waiting threads.
-pub fn soonest(w: &[u64]) -> Due
+pub fn soonest(w: &[u64]) -> Option<u64>
     ensures { result ≡ soonest w.now }
 {
-    let mut d = no_due();
+    let mut seen = None;
     let mut at = chains::first_of(w, ready::waiters_chain());
-    let mut left: usize = 4096;
-    while 0 < left {
+    for _ in 0..4096usize {
         if at == 0 {
-            return d;
+            return seen;
         }
-        d = due_after(w, d, at);
+        seen = due_after(w, seen, at);
         at = chains::next_of(w, ready::waiters_chain(), at);
-        left -= 1;
     }
-    d
+    seen
 }
 
-// The first thread of priority `p`'s queue made current.
-fn run_first(w: &mut [u64], p: u64) -> Answer
-    ensures { outcome result w.new ≡ ran w.old p }
+// The first thread of priority `p`'s queue made current. Answers its number.
+#[tactic(auto, unfolding(crate::specs::Dispatch::ran))]
+fn run_first(w: &mut [u64], p: u64) -> u64
+    ensures { outcome (answer.Run result) w.new ≡ ran w.old p }
 {
     let id = chains::first_of(w, ready::ready_chain(p));
-    let t = threads::read_thread(w, id);
+    let t = threads::Thread {
+        state: threads::RUNNING,
+        ..threads::read_thread(w, id)
+    };
     ready::unplace(w, p, id);
-    threads::write_thread(
-        w,
-        id,
-        threads::Thread {
-            priority: t.priority,
-            state: threads::RUNNING,
-            result: t.result,
-            status: t.status,
-        },
-    );
+    threads::write_thread(w, id, t);
     words::put(w, layout::CURRENT, id);
-    Answer::Run(id)
+    id
 }
 
+#[tactic(auto, unfolding(crate::specs::Dispatch::is_waiting))]
 pub fn is_waiting(w: &[u64], id: u64) -> bool
     ensures { result ≡ is_waiting w.now id }
 {
@@ -101,6 +75,7 @@ pub fn is_waiting(w: &[u64], id: u64) -> bool
 }
 
 // A waiting thread's number at place `k` of the output. Answers the next place.
+#[tactic(auto, unfolding(crate::specs::Dispatch::noted, crate::specs::Dispatch::noted_to))]
 fn note(w: &[u64], out: &mut [u64], id: u64, k: usize) -> usize
     requires { k ≤ 256 }
     ensures { (result ≡ noted_to w.now id k) × (out.new ≡ noted w.now out.old id k) }
@@ -116,40 +91,36 @@ fn note(w: &[u64], out: &mut [u64], id: u64, k: usize) -> usize
 fn list_waiting(w: &[u64], out: &mut [u64]) -> u64
     ensures { (result ≡ listed_to w.now) × (out.new ≡ listed w.now out.old) }
 {
-    let mut id: u64 = 1;
     let mut k: usize = 0;
-    let mut left = threads::count(w);
-    while 0 < left {
-        k = note(w, out, id, k);
-        id += 1;
-        left -= 1;
+    for i in 0..threads::count(w) {
+        k = note(w, out, i + 1, k);
     }
     k as u64
 }
 
 // The current thread; else the first of the highest ready queue, made current; else the smallest waiting deadline or counted
 // timer's due; else finished, or deadlocked with the waiting numbers in `out`.
-pub fn dispatch(w: &mut [u64], out: &mut [u64]) -> Answer
-    ensures { told result w.new out.new ≡ dispatched w.old out.old }
+#[tactic(auto, unfolding(crate::specs::Dispatched::dispatched))]
+pub fn dispatch(w: &mut [u64], out: &mut [u64]) -> Result<Dispatch, SchedulerError>
+    ensures { told (answer_of answered result) w.new out.new ≡ dispatched w.old out.old }
 {
     if (out.len() as u64) < words::get(w, layout::THREAD_LIMIT) {
-        return Answer::Refused(27);
+        return Err(SchedulerError::OutOfForm);
     }
     let id = words::get(w, layout::CURRENT);
     if id != 0 {
-        return Answer::Run(id);
+        return Ok(Dispatch::Run(id));
     }
     let p = words::top_bit(words::get(w, layout::READY));
     if p != 0 {
-        return run_first(w, p);
+        return Ok(Dispatch::Run(run_first(w, p)));
     }
-    let d = next_time(w);
-    if d.some {
-        return Answer::AdvanceTo(d.at);
+    if let Some(time) = next_time(w) {
+        return Ok(Dispatch::AdvanceTo(time));
     }
     let n = list_waiting(w, out);
     if n == 0 {
-        return Answer::Finished;
+        return Ok(Dispatch::Finished);
     }
-    Answer::Deadlocked(n)
+    Ok(Dispatch::Deadlocked(n))
 }

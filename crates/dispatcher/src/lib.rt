@@ -2,5 +2,6 @@
 #![tactic(auto)]
 
 pub mod dispatch;
+pub mod outcome;
 pub mod read;
 pub mod timer_due;

@@ -1,14 +1,14 @@
 // What is read of a thread, and of what it waits for. The words of a wait stay when the wait ends: they are read of a waiting
 // thread only.
 ghost use Rattle.std.specs.Prelude.{◌≡◌};
-ghost use Rattle.dispatcher.specs.Read.{waited_count, wait_word, view_of, thread_read, threads_at, waited_object};
+ghost use Rattle.dispatcher.specs.Read.{waited_count, wait_word, view_of, thread_read, threads_at, waited_object, told_thread, told_place};
 
 use super::dispatch;
 use waits::lists;
 use words::layout;
 
 // `all` and `timed` are 0 or 1; `status` is an exited thread's; from `all` on, 0 for a thread that does not wait.
-#[derive(Clone, Copy)]
+#[derive(Clone, Copy, Debug, PartialEq, Eq)]
 pub struct ThreadView {
     pub id: u64,
     pub priority: u64,
@@ -22,47 +22,37 @@ pub struct ThreadView {
     pub count: u64,
 }
 
-// The reads here refuse nothing; those that first check the form of the words do.
-#[derive(Clone, Copy)]
-pub enum ThreadAnswer {
-    Refused(u64),
-    Thread(ThreadView),
-    None,
-}
-
-#[derive(Clone, Copy)]
+#[derive(Clone, Copy, Debug, PartialEq, Eq)]
 pub struct Place {
     pub kind: u64,
     pub key: u64,
 }
 
-#[derive(Clone, Copy)]
-pub enum PlaceAnswer {
-    Refused(u64),
-    Object(Place),
-    None,
-}
-
 // How many objects the thread waits for.
+#[tactic(auto, unfolding(crate::specs::Read::waited_count))]
 fn waited_count(w: &[u64], id: u64) -> u64
     ensures { result ≡ waited_count w.now id }
 {
     if dispatch::is_waiting(w, id) {
-        return threads::count_of(w, id) as u64;
+        threads::count_of(w, id) as u64
+    } else {
+        0
     }
-    0
 }
 
 // Word `k` of its record, a word of its wait.
+#[tactic(auto, unfolding(crate::specs::Read::wait_word))]
 fn wait_word(w: &[u64], id: u64, k: usize) -> u64
     ensures { result ≡ wait_word w.now id k }
 {
     if dispatch::is_waiting(w, id) {
-        return words::get_in(w, layout::thread_at(id), k);
+        words::get_in(w, layout::thread_at(id), k)
+    } else {
+        0
     }
-    0
 }
 
+#[tactic(auto, unfolding(crate::specs::Read::view_of))]
 fn view(w: &[u64], id: u64) -> ThreadView
     ensures { result ≡ view_of w.now id }
 {
@@ -82,38 +72,36 @@ fn view(w: &[u64], id: u64) -> ThreadView
 }
 
 // The thread of this number.
-pub fn thread(w: &[u64], id: u64) -> ThreadAnswer
-    ensures { result ≡ thread_read w.now id }
+#[tactic(auto, unfolding(crate::specs::Read::thread_read))]
+pub fn thread(w: &[u64], id: u64) -> Option<ThreadView>
+    ensures { told_thread result ≡ thread_read w.now id }
 {
     if threads::is_known(w, id) {
-        return ThreadAnswer::Thread(view(w, id));
+        Some(view(w, id))
+    } else {
+        None
     }
-    ThreadAnswer::None
 }
 
 // The thread at a position in the order of the numbers, from 0 on.
-pub fn threads_at(w: &[u64], position: u64) -> ThreadAnswer
-    ensures { result ≡ threads_at w.now position }
+#[tactic(auto, unfolding(crate::specs::Read::threads_at))]
+pub fn threads_at(w: &[u64], position: u64) -> Option<ThreadView>
+    ensures { told_thread result ≡ threads_at w.now position }
 {
-    if u64::MAX <= position {
-        return ThreadAnswer::None;
-    }
-    thread(w, position + 1)
+    thread(w, position.checked_add(1)?)
 }
 
 // The object at a position in a thread's wait, from 0 on.
-pub fn waited_object(w: &[u64], id: u64, position: u64) -> PlaceAnswer
-    ensures { result ≡ waited_object w.now id position }
+#[tactic(auto, using(crate::proofs::ReadLaws::waited_most), unfolding(crate::specs::Read::waited_object))]
+pub fn waited_object(w: &[u64], id: u64, position: u64) -> Option<Place>
+    ensures { told_place result ≡ waited_object w.now id position }
 {
-    if !threads::is_known(w, id) {
-        return PlaceAnswer::None;
-    }
-    if waited_count(w, id) <= position {
-        return PlaceAnswer::None;
+    if !threads::is_known(w, id) || waited_count(w, id) <= position {
+        return None;
     }
     let at = threads::places_at(id);
     let i = position as usize;
-    PlaceAnswer::Object(Place {
+    Some(Place {
         kind: lists::kind_in(w, at, i),
         key: lists::key_in(w, at, i),
     })

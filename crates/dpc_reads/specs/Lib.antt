@@ -1,1 +1,4 @@
+pub mod CountersAnswer
+pub mod DpcAnswer
+pub mod PolicyAnswer
 pub mod Reads

@@ -1,17 +1,42 @@
 -- What is read of DPCs, of the queue, and of the policy.
-use Rattle.std.specs.Prelude.{cond, ℕ, zero, suc, ◌+◌, List, get_or, eqb, leb, ltb}
+use Rattle.std.specs.Prelude.{cond, ℕ, zero, suc, ◌+◌, List, get_or, eqb, leb, ltb, Option, Some, None, Result, Ok, Err}
 use Rattle.words.specs.Layout as at
 use Rattle.chains.specs.declared.Chain.{Chain}
 use Rattle.chains.specs.Chain.{first_of, next_of}
 use Rattle.dpcs.specs.Record.{number_of, place_at, queue_chain, dpc_at}
 use Rattle.answers.specs.declared.Answer.{Answer}
 use Rattle.answers.specs.declared.Answer.TheVariants as answer
-use Rattle.dpc_reads.specs.declared.DpcAnswer.{DpcAnswer}
-use Rattle.dpc_reads.specs.declared.DpcAnswer.TheVariants as read
-use Rattle.dpc_reads.specs.declared.PolicyAnswer.{PolicyAnswer}
-use Rattle.dpc_reads.specs.declared.PolicyAnswer.TheVariants as policy
-use Rattle.dpc_reads.specs.declared.CountersAnswer.{CountersAnswer}
-use Rattle.dpc_reads.specs.declared.CountersAnswer.TheVariants as counters
+use Rattle.dpc_reads.specs.DpcAnswer.{DpcAnswer}
+use Rattle.dpc_reads.specs.DpcAnswer as read
+use Rattle.dpc_reads.specs.PolicyAnswer.{PolicyAnswer}
+use Rattle.dpc_reads.specs.PolicyAnswer as policy
+use Rattle.dpc_reads.specs.CountersAnswer.{CountersAnswer}
+use Rattle.dpc_reads.specs.CountersAnswer as counters
+use Rattle.dpc_reads.specs.declared.DpcPolicy.{DpcPolicy}
+use Rattle.dpc_reads.specs.declared.DpcPolicy.TheVariants as chosen
+use Rattle.answers.specs.declared.error.SchedulerError.{SchedulerError}
+use Rattle.answers.specs.Errors.{number}
+use Rattle.images.specs.declared.Dpc.{Dpc}
+
+-- ---- what the reads tell
+
+abbrev pub told : Option Dpc → DpcAnswer
+told None = read.None
+told (Some d) = read.Dpc d
+
+abbrev pub known : Result Dpc SchedulerError → DpcAnswer
+known (Ok d) = read.Dpc d
+known (Err e) = read.Refused (number e)
+
+abbrev pub selected : DpcPolicy → PolicyAnswer
+selected chosen.Unselected = policy.Unselected
+selected (chosen.Cpu0Dispatch first second) = policy.Cpu0Dispatch first second
+
+abbrev pub count_or_none : Option ℕ → Answer
+count_or_none None = answer.None
+count_or_none (Some n) = answer.Count n
+
+-- ---- the policy and the counts
 
 unfoldable pub policy_read : List ℕ → PolicyAnswer
 policy_read w =

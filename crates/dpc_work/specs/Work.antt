@@ -1,14 +1,17 @@
 -- The calls on DPC work: what refuses them, their answers, and the words after them. Phases: 0 idle, 1 queued, 2 running, 3 returning.
-use Rattle.std.specs.Prelude.{Bool, cond, true, false, ℕ, ◌+◌, ◌-◌, ◌^◌, List, get_or, set, eqb, leb}
+use Rattle.std.specs.Prelude.{Bool, cond, true, false, ℕ, ◌+◌, ◌-◌, ◌^◌, List, get_or, set, eqb, leb, Result, Ok, Err}
 use Rattle.words.specs.Layout as at
 use Rattle.chains.specs.Chain.{first_of, unlinked}
 use Rattle.dpcs.specs.Record.{number_of, place_at, queue_chain, work_at}
 use Rattle.dpcs.specs.Named.{is_named}
 use Rattle.answers.specs.declared.Answer.TheVariants as answer
 use Rattle.answers.specs.Outcome.{Outcome, outcome, unless}
+use Rattle.answers.specs.declared.error.SchedulerError.{SchedulerError}
+use Rattle.answers.specs.Errors.{number}
+use Rattle.images.specs.declared.DpcWork.{DpcWork}
 use Rattle.dpc_queue.specs.declared.Origin.{Origin}
-use Rattle.dpc_work.specs.declared.WorkAnswer.{WorkAnswer}
-use Rattle.dpc_work.specs.declared.WorkAnswer.TheVariants as start
+use Rattle.dpc_work.specs.WorkAnswer.{WorkAnswer}
+use Rattle.dpc_work.specs.WorkAnswer as start
 use Rattle.dpc_queue.specs.Queue.{raised, queued, accepted, withdrawn}
 
 -- ---- configure_dpc_dispatch: 20 a policy is set, or something has been made or done; 20 an argument 0, or both equal
@@ -79,6 +82,11 @@ pub record Started : Type 0 where
 
 abbrev pub start_outcome : WorkAnswer → List ℕ → Started
 start_outcome a w = record { answer = a; words = w }
+
+-- what a start tells
+abbrev pub told : Result DpcWork SchedulerError → WorkAnswer
+told (Ok work) = start.Work work
+told (Err e) = start.Refused (number e)
 
 unfoldable pub start_refusal : List ℕ → ℕ → ℕ
 start_refusal w address =

@@ -2,4 +2,5 @@
 #![tactic(auto)]
 
 pub mod named;
+pub mod numbered;
 pub mod record;

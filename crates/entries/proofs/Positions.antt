@@ -12,8 +12,8 @@ use Rattle.words.specs.Layout.{entry_at, objects_at}
 use Rattle.objects.specs.Objects.{objects_base, object_count}
 use Rattle.answers.specs.declared.Answer.{Answer}
 use Rattle.answers.specs.declared.Answer.TheVariants as answer
-use Rattle.timers.specs.declared.TimerAnswer.{TimerAnswer}
-use Rattle.timers.specs.declared.TimerAnswer.TheVariants as timer
+use Rattle.timers.specs.TimerAnswer.{TimerAnswer}
+use Rattle.timers.specs.TimerAnswer as timer
 use Rattle.timers.specs.Record.{timer_at, is_timer}
 use Rattle.timers.specs.Reads as timers
 use Rattle.timers.specs.Reads.{timer_answer, timers_at}

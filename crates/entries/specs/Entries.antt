@@ -4,8 +4,8 @@ use Rattle.words.specs.Layout.{entry_at}
 use Rattle.objects.specs.Objects.{objects_base, object_count}
 use Rattle.answers.specs.declared.Answer.{Answer}
 use Rattle.answers.specs.declared.Answer.TheVariants as answer
-use Rattle.timers.specs.declared.TimerAnswer.{TimerAnswer}
-use Rattle.timers.specs.declared.TimerAnswer.TheVariants as timer
+use Rattle.timers.specs.TimerAnswer.{TimerAnswer}
+use Rattle.timers.specs.TimerAnswer as timer
 use Rattle.timers.specs.Record.{timer_at, is_timer}
 use Rattle.events.specs.Events.{state_at}
 use Rattle.event_release.specs.Release as release

@@ -2,8 +2,8 @@
 use Rattle.std.specs.Prelude.{List, [], ◌∷◌, ℕ, zero, suc, ◌+◌}
 use Rattle.answers.specs.declared.Answer.{Answer}
 use Rattle.answers.specs.declared.Answer.TheVariants as answer
-use Rattle.timers.specs.declared.TimerAnswer.{TimerAnswer}
-use Rattle.timers.specs.declared.TimerAnswer.TheVariants as timer
+use Rattle.timers.specs.TimerAnswer.{TimerAnswer}
+use Rattle.timers.specs.TimerAnswer as timer
 use Rattle.entries.specs.Entries.{event_entry, timer_entry}
 
 -- what an answer says of its entry: there is none, it is of another kind, or it is this

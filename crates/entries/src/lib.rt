@@ -3,10 +3,15 @@
 #![tactic(auto)]
 
 ghost use Rattle.std.specs.Prelude.{◌≡◌};
+ghost use Rattle.answers.specs.Errors.{answer_of, told_by};
+ghost use Rattle.events.specs.Events as events;
+ghost use Rattle.timers.specs.TimerAnswer as timer;
+ghost use Rattle.timers.specs.Reads as timers;
 ghost use Rattle.entries.specs.Entries.{is_event, event_entry, timer_entry};
 
-use answers::Answer;
-use timers::TimerAnswer;
+use answers::error::SchedulerError;
+use events::Event;
+use images::Timer;
 use words::layout;
 
 fn is_event(w: &[u64], at: usize) -> bool
@@ -15,28 +20,30 @@ fn is_event(w: &[u64], at: usize) -> bool
     words::get_in(w, at, layout::KIND) == objects::EVENT
 }
 
-pub fn event_entry(w: &[u64], entry: u64) -> Answer
-    ensures { result ≡ event_entry w.now «entry» }
+#[tactic(auto, unfolding(crate::specs::Entries::event_entry))]
+pub fn event_entry(w: &[u64], entry: u64) -> Result<Option<Event>, SchedulerError>
+    ensures { answer_of events.told result ≡ event_entry w.now «entry» }
 {
     if objects::count(w) <= entry {
-        return Answer::Refused(2);
+        return Err(SchedulerError::Unknown);
     }
     let at = layout::entry_at(objects::objects_base(w), entry);
     if is_event(w, at) {
-        return events::event_at(w, at);
+        return Ok(events::event_at(w, at));
     }
-    Answer::None
+    Ok(None)
 }
 
-pub fn timer_entry(w: &[u64], entry: u64) -> TimerAnswer
-    ensures { result ≡ timer_entry w.now «entry» }
+#[tactic(auto, unfolding(crate::specs::Entries::timer_entry))]
+pub fn timer_entry(w: &[u64], entry: u64) -> Result<Option<Timer>, SchedulerError>
+    ensures { told_by timers.told timer.Refused result ≡ timer_entry w.now «entry» }
 {
     if objects::count(w) <= entry {
-        return TimerAnswer::Refused(2);
+        return Err(SchedulerError::Unknown);
     }
     let at = layout::entry_at(objects::objects_base(w), entry);
     if timers::record::is_timer(w, at) {
-        return TimerAnswer::Timer(timers::record::read_timer(w, at));
+        return Ok(Some(timers::record::read_timer(w, at)));
     }
-    TimerAnswer::None
+    Ok(None)
 }

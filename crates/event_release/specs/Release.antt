@@ -75,13 +75,6 @@ release_answer w base size span = cond (eqb (release_refusal w base size span) 0
 unfoldable pub is_retired : List ℕ → ℕ → ℕ → ℕ → Bool
 is_retired w place lo hi = cond (is_event w place) (cond (ltb (get_or w (place + at.key) 0) lo) false (ltb (get_or w (place + at.key) 0) hi)) false
 
--- a record that is not retired moved to `j`, and where the next one goes
-unfoldable pub kept : List ℕ → ℕ → ℕ → ℕ → ℕ → ℕ → List ℕ
-kept w base i j lo hi = cond (is_retired w (entry_at base i) lo hi) w (moved w base i j)
-
-unfoldable pub kept_to : List ℕ → ℕ → ℕ → ℕ → ℕ → ℕ → ℕ
-kept_to w base i j lo hi = cond (is_retired w (entry_at base i) lo hi) j (j + 1)
-
 -- `m` records from record `i` on, of which those that stay go to `j` and on; then the count
 unfoldable pub retired_in : ℕ → List ℕ → ℕ → ℕ → ℕ → ℕ → ℕ → List ℕ
 retired_in zero w base i j lo hi = set w at.objects j

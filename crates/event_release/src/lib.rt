@@ -1,197 +1,140 @@
 // The events by position, and those in memory that the guest gives back. Walks of the object table, one record after another.
 #![tactic(auto)]
 
-ghost use Rattle.std.specs.Prelude.{◌≡◌, ◌≤◌};
+ghost use Rattle.std.specs.Prelude.{◌≡◌, ◌+◌, IfOk};
+ghost use Rattle.objects.specs.Found.{nonzero};
+ghost use Rattle.answers.specs.Errors.{refusal, done};
 ghost use Rattle.answers.specs.Outcome.{outcome};
-ghost use Rattle.event_release.specs.Release.{is_event, is_nth, passed_to, nth_event, event_states, key_held, is_held, any_held, release_refusal, release_answer, is_retired, kept, kept_to, retired, events_retired};
+ghost use Rattle.events.specs.Events.{told};
+ghost use Rattle.event_release.specs.Release.{is_event, nth_event, event_states, key_held, is_held, any_held, release_refusal, release_answer, is_retired, retired, events_retired};
 
-use answers::Answer;
+use answers::error::SchedulerError;
+use events::Event;
 use words::layout;
 
 // Whether the record at place `at` is an event's.
+#[tactic(auto, unfolding(crate::specs::Release::is_event))]
 fn is_event(w: &[u64], at: usize) -> bool
     ensures { result ≡ is_event w.now at }
 {
     words::get_in(w, at, layout::KIND) == objects::EVENT
 }
 
-// Whether it is an event and none of `before` is left to pass.
-fn is_nth(w: &[u64], at: usize, before: u64) -> bool
-    ensures { result ≡ is_nth w.now at before }
-{
-    if is_event(w, at) {
-        return before == 0;
-    }
-    false
-}
-
-// How many events are left to pass after this record.
-fn pass(w: &[u64], at: usize, before: u64) -> u64
-    ensures { result ≡ passed_to w.now at before }
-{
-    if before == 0 {
-        return 0;
-    }
-    if is_event(w, at) {
-        return before - 1;
-    }
-    before
-}
-
-// Where the event at the position stands; 0 where there is none.
-fn nth_event(w: &[u64], position: u64) -> usize
-    ensures { result ≡ nth_event w.now position }
+// Where the event at the position stands, if there is one.
+fn nth_event(w: &[u64], position: u64) -> Option<usize>
+    ensures { result ≡ nonzero (nth_event w.now position) }
 {
     let base = objects::objects_base(w);
-    let mut before = position;
-    let mut i: u64 = 0;
-    let mut left = objects::count(w);
-    while 0 < left {
-        let at = layout::entry_at(base, i);
-        if is_nth(w, at, before) {
-            return at;
-        }
-        before = pass(w, at, before);
-        i += 1;
-        left -= 1;
-    }
-    0
+    (0..objects::count(w))
+        .map(|i| layout::entry_at(base, i))
+        .filter(|&at| is_event(w, at))
+        .nth(position as usize)
 }
 
 // The event at the position, from 0, among the events by rising key.
-pub fn event_states(w: &[u64], position: u64) -> Answer
-    ensures { result ≡ event_states w.now position }
+#[tactic(auto, unfolding(crate::specs::Release::event_states, events::specs::Events::state_at))]
+pub fn event_states(w: &[u64], position: u64) -> Option<Event>
+    ensures { told result ≡ event_states w.now position }
 {
-    events::event_at(w, nth_event(w, position))
+    events::event_at(w, nth_event(w, position)?)
 }
 
-// Whether the event, `span` long, keeps the memory from `lo` to `hi` from being given back.
-fn is_key_held(w: &[u64], key: u64, lo: u64, hi: u64, span: u64) -> bool
-    ensures { result ≡ key_held w.now key lo hi span }
+// Memory from `lo` on and below `hi`.
+#[derive(Clone, Copy)]
+struct Memory {
+    lo: u64,
+    hi: u64,
+}
+
+// Whether the event, `span` long, keeps the memory from being given back.
+#[tactic(auto, unfolding(crate::specs::Release::key_held))]
+fn is_key_held(w: &[u64], key: u64, memory: Memory, span: u64) -> bool
+    ensures { result ≡ key_held w.now key memory.lo memory.hi span }
 {
-    if u64::MAX - key < span {
+    let Some(end) = key.checked_add(span) else {
         return true;
-    }
-    if hi <= key {
+    };
+    if memory.hi <= key || end <= memory.lo {
         return false;
     }
-    let end = key + span;
-    if end <= lo {
-        return false;
-    }
-    if key < lo {
-        return true;
-    }
-    if hi < end {
-        return true;
-    }
-    wakes::waits_on(w, objects::EVENT, key)
+    key < memory.lo || memory.hi < end || wakes::waits_on(w, objects::EVENT, key)
 }
 
-fn is_held(w: &[u64], at: usize, lo: u64, hi: u64, span: u64) -> bool
-    ensures { result ≡ is_held w.now at lo hi span }
+#[tactic(auto, unfolding(crate::specs::Release::is_held))]
+fn is_held(w: &[u64], at: usize, memory: Memory, span: u64) -> bool
+    ensures { result ≡ is_held w.now at memory.lo memory.hi span }
 {
-    if is_event(w, at) {
-        return is_key_held(w, words::get_in(w, at, layout::KEY), lo, hi, span);
-    }
-    false
+    is_event(w, at) && is_key_held(w, words::get_in(w, at, layout::KEY), memory, span)
 }
 
-fn any_held(w: &[u64], lo: u64, hi: u64, span: u64) -> bool
-    ensures { result ≡ any_held w.now lo hi span }
+fn any_held(w: &[u64], memory: Memory, span: u64) -> bool
+    ensures { result ≡ any_held w.now memory.lo memory.hi span }
 {
     let base = objects::objects_base(w);
-    let mut i: u64 = 0;
-    let mut left = objects::count(w);
-    while 0 < left {
-        if is_held(w, layout::entry_at(base, i), lo, hi, span) {
-            return true;
-        }
-        i += 1;
-        left -= 1;
-    }
-    false
+    (0..objects::count(w)).any(|i| is_held(w, layout::entry_at(base, i), memory, span))
 }
 
-fn release_refusal(w: &[u64], base: u64, size: u64, span: u64) -> u64
-    ensures { result ≡ release_refusal w.now base size span }
+// The `size` bytes from `base` on, if they may be given back.
+#[tactic(auto, unfolding(crate::specs::Release::release_refusal))]
+fn check_release(w: &[u64], base: u64, size: u64, span: u64) -> Result<Memory, SchedulerError>
+    ensures refused { refusal result ≡ release_refusal w.now base size span }
+    ensures memory { IfOk result (λ m. (m.lo ≡ base) × (m.hi ≡ base + size)) }
 {
-    if u64::MAX - base < size {
-        return 23;
+    let hi = base.checked_add(size).ok_or(SchedulerError::NotReleasable)?;
+    let memory = Memory { lo: base, hi };
+    if size == 0 || span == 0 || any_held(w, memory, span) {
+        return Err(SchedulerError::NotReleasable);
     }
-    if size == 0 {
-        return 23;
-    }
-    if span == 0 {
-        return 23;
-    }
-    if any_held(w, base, base + size, span) {
-        return 23;
-    }
-    0
+    Ok(memory)
 }
 
 // Whether `size` bytes from `base` on may be given back, where an event is `layout` bytes long.
-pub fn require_event_release(w: &[u64], base: u64, size: u64, layout: u64) -> Answer
-    ensures { result ≡ release_answer w.now base size layout }
+#[tactic(auto, unfolding(crate::specs::Release::release_answer))]
+pub fn require_event_release(
+    w: &[u64],
+    base: u64,
+    size: u64,
+    layout: u64,
+) -> Result<(), SchedulerError>
+    ensures { done result ≡ release_answer w.now base size layout }
 {
-    let refusal = release_refusal(w, base, size, layout);
-    if refusal != 0 {
-        return Answer::Refused(refusal);
-    }
-    Answer::Done
+    check_release(w, base, size, layout)?;
+    Ok(())
 }
 
-// Whether the record is of an event from `lo` on and below `hi`.
-fn is_retired(w: &[u64], at: usize, lo: u64, hi: u64) -> bool
-    ensures { result ≡ is_retired w.now at lo hi }
+// Whether the record is of an event in the memory.
+#[tactic(auto, unfolding(crate::specs::Release::is_retired))]
+fn is_retired(w: &[u64], at: usize, memory: Memory) -> bool
+    ensures { result ≡ is_retired w.now at memory.lo memory.hi }
 {
-    if is_event(w, at) {
-        let key = words::get_in(w, at, layout::KEY);
-        if key < lo {
-            return false;
-        }
-        return key < hi;
+    if !is_event(w, at) {
+        return false;
     }
-    false
+    let key = words::get_in(w, at, layout::KEY);
+    memory.lo <= key && key < memory.hi
 }
 
-// Record `i`, unless it is retired, becomes record `j`. Answers the place of the next that stays.
-fn keep(w: &mut [u64], base: usize, i: u64, j: u64, lo: u64, hi: u64) -> u64
-    requires { j ≤ 4096 }
-    ensures { (result ≡ kept_to w.old base i j lo hi) × (w.new ≡ kept w.old base i j lo hi) }
-{
-    if is_retired(w, layout::entry_at(base, i), lo, hi) {
-        return j;
-    }
-    tables::move_down(w, base, i, j);
-    j + 1
-}
-
-// The events from `lo` on and below `hi` taken out of the table; the other objects keep their order.
-fn retire(w: &mut [u64], lo: u64, hi: u64)
-    ensures { w.new ≡ retired w.old lo hi }
+// The events in the memory taken out of the table; the other objects keep their order.
+fn retire(w: &mut [u64], memory: Memory)
+    ensures { w.new ≡ retired w.old memory.lo memory.hi }
 {
     let base = objects::objects_base(w);
-    let mut i: u64 = 0;
-    let mut j: u64 = 0;
-    let mut left = objects::count(w);
-    while 0 < left {
-        j = keep(w, base, i, j, lo, hi);
-        i += 1;
-        left -= 1;
-    }
-    words::put(w, layout::OBJECTS, j);
+    let n = objects::count(w);
+    let stay = tables::retain(w, base, n, |w, at| is_retired(w, at, memory));
+    words::put(w, layout::OBJECTS, stay);
 }
 
 // The memory given back, and its events no more.
-pub fn retire_event_backing(w: &mut [u64], base: u64, size: u64, layout: u64) -> Answer
-    ensures { outcome result w.new ≡ events_retired w.old base size layout }
+#[tactic(auto, unfolding(crate::specs::Release::events_retired))]
+pub fn retire_event_backing(
+    w: &mut [u64],
+    base: u64,
+    size: u64,
+    layout: u64,
+) -> Result<(), SchedulerError>
+    ensures { outcome (done result) w.new ≡ events_retired w.old base size layout }
 {
-    let refusal = release_refusal(w, base, size, layout);
-    if refusal != 0 {
-        return Answer::Refused(refusal);
-    }
-    retire(w, base, base + size);
-    Answer::Done
+    let memory = check_release(w, base, size, layout)?;
+    retire(w, memory);
+    Ok(())
 }

@@ -1,11 +1,12 @@
 -- The calls on events: what refuses them, their answers, and the words after them. Kind 1 is an event.
-use Rattle.std.specs.Prelude.{Bool, cond, not, ℕ, ◌+◌, List, get_or, set, eqb}
+use Rattle.std.specs.Prelude.{Bool, cond, not, ℕ, ◌+◌, List, get_or, set, eqb, Option, Some, None}
 use Rattle.words.specs.Layout as at
 use Rattle.objects.specs.declared.Object.{Object}
 use Rattle.objects.specs.Objects.{place_of, collides, full, entered}
 use Rattle.wakes.specs.Wake.{awake, waits_on}
 use Rattle.answers.specs.declared.Answer.{Answer}
 use Rattle.answers.specs.declared.Answer.TheVariants as answer
+use Rattle.events.specs.declared.Event.{Event}
 use Rattle.answers.specs.Outcome.{Outcome, outcome, unless, bit}
 
 abbrev pub flag : Bool → ℕ
@@ -28,6 +29,11 @@ initialized w key manual signaled = unless (event_refusal w key) w (outcome answ
 unfoldable pub state_at : List ℕ → ℕ → Answer
 state_at w place =
     cond (eqb place 0) answer.None (answer.Event (get_or w (place + at.key) 0) (not (eqb (get_or w (place + at.manual) 0) 0)) (not (eqb (get_or w (place + at.signaled) 0) 0)))
+
+-- what a read of an event tells
+abbrev pub told : Option Event → Answer
+told None = answer.None
+told (Some e) = answer.Event e.key e.manual e.signaled
 
 unfoldable pub event_state : List ℕ → ℕ → Answer
 event_state w key = state_at w (place_of w 1 key)

@@ -8,21 +8,6 @@ less_one k = omega arith
 
 -- ---- whether there is one
 
-pub any_none : (m : ℕ) (w : List ℕ) (base i time : ℕ) → m ≤ 0 → any_in m w base i time ≡ false
-unfolding any_in
-any_none zero w base i time h = refl
-any_none (suc m) w base i time h = absurd (omega arith)
-
-pub any-stop : (m : ℕ) (w : List ℕ) (base i time : ℕ) → 0 < m → is_due w (entry_at base i) time ≡ true → any_in m w base i time ≡ true
-unfolding any_in
-any-stop zero w base i time h e = absurd (omega arith)
-any-stop (suc m) w base i time h e = simp e
-
-pub any-more : (m : ℕ) (w : List ℕ) (base i time : ℕ) → 0 < m → is_due w (entry_at base i) time ≡ false → any_in m w base i time ≡ any_in (m - 1) w base (i + 1) time
-unfolding any_in
-any-more zero w base i time h e = absurd (omega arith)
-any-more (suc m) w base i time h e = simp (e, less_one m)
-
 -- none is due: the list is empty
 pub none-due : (m : ℕ) (w : List ℕ) (base i time : ℕ) → any_in m w base i time ≡ false → due_in m w base i time ≡ []
 unfolding any_in due_in

@@ -1,11 +1,17 @@
 -- What the expiry of due timers does.
-use Rattle.std.specs.Prelude.{ℕ, ◌+◌, cond, List, [], ◌∷◌, ◌==◌, slice_index, slice_index_or, slice_set}
+use Rattle.std.specs.Prelude.{ℕ, ◌+◌, cond, List, [], ◌∷◌, ◌==◌, slice_index, slice_index_or, slice_set, Option, Some, None}
 use Rattle.words.specs.Layout as at
 use Rattle.words.specs.Layout.{entry_at}
 use Rattle.dpcs.specs.Record.{number_of, place_at}
 use Rattle.dpc_queue.specs.Queue.{raised, accepted}
 use Rattle.dpc_queue.specs.declared.Origin.{Origin}
 use Rattle.expiry.specs.Next.{later_due}
+
+-- the number of the DPC of the timer whose record stands at `place`, if it has one
+unfoldable pub dpc_of : List ℕ → ℕ → Option ℕ
+dpc_of w place =
+    let dpc = slice_index_or w (place + at.timer_dpc) 0 in
+    cond (dpc == 0) None (Some (number_of w dpc))
 
 unfoldable pub flag : ℕ → ℕ
 flag n = cond (n == 0) 0 1

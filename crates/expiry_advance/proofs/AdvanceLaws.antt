@@ -5,7 +5,6 @@ use mathlib.Core.Path.{◌≡◌, refl, ap, ◌∙◌}
 use Prim.Native.Nat.{ℕ}
 use lib.ListN.{get_or}
 use lib.Dec.{eqb}
-use borrow.Author.Tests.{ne_eqb}
 use Rattle.words.specs.Layout as at
 use Rattle.objects.specs.Objects.{object_count, objects_base}
 use Rattle.expiry_order.specs.Order.{sorted}
@@ -27,15 +26,10 @@ none-in-order : (w : List ℕ) (time : ℕ) → any_due w time ≡ false → ord
 unfolding order due_list any_due
 none-in-order w time h = ap (arranged w (objects_base w)) (none-due (object_count w) w (objects_base w) 0 time h) ∙ none-arranged w (objects_base w)
 
-pub none-refused : (w : List ℕ) (time : ℕ) → any_due w time ≡ false → expiry_refusal w time ≡ 0
+pub none_refused : (w : List ℕ) (time : ℕ) → any_due w time ≡ false → expiry_refusal w time ≡ 0
 unfolding expiry_refusal list_refusal refusal_in
-none-refused w time h = ap (λ (l : List ℕ). list_refusal w (objects_base w) l time) (none-in-order w time h)
+none_refused w time h = ap (λ (l : List ℕ). list_refusal w (objects_base w) l time) (none-in-order w time h)
 
-pub none-changed : (w : List ℕ) (time : ℕ) → any_due w time ≡ false → expiry_words w time ≡ w
+pub none_changed : (w : List ℕ) (time : ℕ) → any_due w time ≡ false → expiry_words w time ≡ w
 unfolding expiry_words ran list_refusal refusal_in expired_list
-none-changed w time h = ap (λ (l : List ℕ). ran w (objects_base w) l time) (none-in-order w time h)
-
--- a refused expiry changes nothing
-pub refused-unchanged : (w : List ℕ) (time : ℕ) → (expiry_refusal w time ≡ 0 → ⊥) → expiry_words w time ≡ w
-unfolding expiry_words ran expiry_refusal
-refused-unchanged w time n = simp (ne_eqb _ _ n)
+none_changed w time h = ap (λ (l : List ℕ). ran w (objects_base w) l time) (none-in-order w time h)

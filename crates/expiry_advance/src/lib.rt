@@ -1,36 +1,37 @@
 // The expiry of an advance, whole: the due timers in order, what refuses them, and, if nothing does, what they do.
 #![tactic(auto)]
 
-ghost use Rattle.std.specs.Prelude.{◌≡◌, ◌≤◌, length, take};
+ghost use Rattle.std.specs.Prelude.{◌≡◌, ◌≤◌, length, take, OnErr};
+ghost use Rattle.answers.specs.Errors.{refusal};
 ghost use Rattle.objects.specs.Objects.{objects_base, object_count};
 ghost use Rattle.expiry.specs.Check.{list_refusal};
 ghost use Rattle.expiry_advance.specs.Advance.{arranged, ran, order, expiry_refusal, expiry_words};
 
+use answers::error::SchedulerError;
 use expiry::{check, due, expire};
 use expiry_order::sort;
 use words::layout;
 
 // With a policy due timers go by due, then address; without one, by address.
+#[tactic(auto, unfolding(crate::specs::Advance::arranged))]
 fn arrange(w: &[u64], base: usize, list: &mut [u64], room: &mut [u64])
     requires { length list.old ≤ length room.old }
     ensures { list.new ≡ arranged w.now base list.old }
 {
-    if words::get(w, layout::POLICY) == 0 {
-        return;
+    if words::get(w, layout::POLICY) != 0 {
+        sort(w, base, list, room);
     }
-    sort(w, base, list, room);
 }
 
-// The timers of the list expire, unless one is refused: then nothing changes. Answers the refusal, or 0.
-fn run(w: &mut [u64], base: usize, list: &[u64], time: u64) -> u64
-    ensures { (result ≡ list_refusal w.old base list.now time) × (w.new ≡ ran w.old base list.now time) }
+// The timers of the list expire, unless one is refused: then nothing changes.
+#[tactic(auto, unfolding(crate::specs::Advance::ran))]
+fn run(w: &mut [u64], base: usize, list: &[u64], time: u64) -> Result<(), SchedulerError>
+    ensures told { (refusal result ≡ list_refusal w.old base list.now time) × (w.new ≡ ran w.old base list.now time) }
+    ensures err { OnErr result (w.new ≡ w.old) }
 {
-    let refusal = check::list_refusal(w, base, list, time);
-    if refusal != 0 {
-        return refusal;
-    }
+    check::check_list(w, base, list, time)?;
     expire::expire_list(w, base, list, time);
-    0
+    Ok(())
 }
 
 // The due timers in the order in which they go, at the start of the list. Answers how many.
@@ -45,49 +46,53 @@ fn gather(w: &[u64], time: u64, list: &mut [u64], room: &mut [u64]) -> usize
 }
 
 // The first `n` timers of the list.
-fn run_front(w: &mut [u64], list: &[u64], n: usize, time: u64) -> u64
+fn run_front(w: &mut [u64], list: &[u64], n: usize, time: u64) -> Result<(), SchedulerError>
     requires { n ≤ length list.now }
-    ensures { (result ≡ list_refusal w.old (objects_base w.old) (take n list.now) time) × (w.new ≡ ran w.old (objects_base w.old) (take n list.now) time) }
+    ensures told { (refusal result ≡ list_refusal w.old (objects_base w.old) (take n list.now) time) × (w.new ≡ ran w.old (objects_base w.old) (take n list.now) time) }
+    ensures err { OnErr result (w.new ≡ w.old) }
 {
     let base = objects::objects_base(w);
     run(w, base, &list[..n], time)
 }
 
 // With room for every object in two lists.
-fn expire_in(w: &mut [u64], time: u64, list: &mut [u64], room: &mut [u64]) -> u64
+#[tactic(auto, unfolding(crate::specs::Advance::expiry_refusal, crate::specs::Advance::expiry_words))]
+fn expire_in(
+    w: &mut [u64],
+    time: u64,
+    list: &mut [u64],
+    room: &mut [u64],
+) -> Result<(), SchedulerError>
     requires { (object_count w.old ≤ length list.old) × (length list.old ≤ length room.old) }
-    ensures { (result ≡ expiry_refusal w.old time) × (w.new ≡ expiry_words w.old time) }
+    ensures told { (refusal result ≡ expiry_refusal w.old time) × (w.new ≡ expiry_words w.old time) }
+    ensures err { OnErr result (w.new ≡ w.old) }
 {
     let n = gather(w, time, list, room);
     run_front(w, list, n, time)
 }
 
-fn expire_few(w: &mut [u64], time: u64) -> u64
-    requires { object_count w.old ≤ 64 }
-    ensures { (result ≡ expiry_refusal w.old time) × (w.new ≡ expiry_words w.old time) }
+// With two lists of `N` places.
+fn expire_within<const N: usize>(w: &mut [u64], time: u64) -> Result<(), SchedulerError>
+    requires { (object_count w.old ≤ N) × (N ≤ 4096) }
+    ensures told { (refusal result ≡ expiry_refusal w.old time) × (w.new ≡ expiry_words w.old time) }
+    ensures err { OnErr result (w.new ≡ w.old) }
 {
-    let mut list = [0u64; 64];
-    let mut room = [0u64; 64];
+    let mut list = [0u64; N];
+    let mut room = [0u64; N];
     expire_in(w, time, &mut list, &mut room)
 }
 
-fn expire_many(w: &mut [u64], time: u64) -> u64
-    ensures { (result ≡ expiry_refusal w.old time) × (w.new ≡ expiry_words w.old time) }
-{
-    let mut list = [0u64; 4096];
-    let mut room = [0u64; 4096];
-    expire_in(w, time, &mut list, &mut room)
-}
-
-// The timers that are due at `time` expire. Answers what refuses it, or 0. A time at which none is due needs no list.
-pub fn expire_timers(w: &mut [u64], time: u64) -> u64
-    ensures { (result ≡ expiry_refusal w.old time) × (w.new ≡ expiry_words w.old time) }
+// The timers that are due at `time` expire. A time at which none is due needs no list, and few objects need a short one.
+#[tactic(auto, using(crate::proofs::AdvanceLaws::none_refused, crate::proofs::AdvanceLaws::none_changed))]
+pub fn expire_timers(w: &mut [u64], time: u64) -> Result<(), SchedulerError>
+    ensures told { (refusal result ≡ expiry_refusal w.old time) × (w.new ≡ expiry_words w.old time) }
+    ensures err { OnErr result (w.new ≡ w.old) }
 {
     if !due::any_due(w, time) {
-        return 0;
+        return Ok(());
     }
     if objects::count(w) <= 64 {
-        return expire_few(w, time);
+        return expire_within::<64>(w, time);
     }
-    expire_many(w, time)
+    expire_within::<4096>(w, time)
 }

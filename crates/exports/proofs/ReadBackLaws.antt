@@ -22,17 +22,17 @@ use Rattle.images.specs.Place.{architecture_number, backing_kind, backing_base, 
 use Rattle.answers.specs.Outcome.{Outcome, bit}
 use Rattle.answers.specs.declared.Answer.{Answer}
 use Rattle.answers.specs.declared.Answer.TheVariants as answer
-use Rattle.timers.specs.declared.TimerAnswer.TheVariants as timer
-use Rattle.dpc_reads.specs.declared.DpcAnswer.TheVariants as dpc
-use Rattle.dpc_reads.specs.declared.PolicyAnswer.TheVariants as policy
+use Rattle.timers.specs.TimerAnswer as timer
+use Rattle.dpc_reads.specs.DpcAnswer as dpc
+use Rattle.dpc_reads.specs.PolicyAnswer as policy
 use Rattle.dpc_reads.specs.declared.DpcCounters.{DpcCounters}
-use Rattle.dpc_reads.specs.declared.CountersAnswer.TheVariants as counters
-use Rattle.dpc_work.specs.declared.WorkAnswer.{WorkAnswer}
-use Rattle.dpc_work.specs.declared.WorkAnswer.TheVariants as work
+use Rattle.dpc_reads.specs.CountersAnswer as counters
+use Rattle.dpc_work.specs.WorkAnswer.{WorkAnswer}
+use Rattle.dpc_work.specs.WorkAnswer as work
 use Rattle.dispatcher.specs.declared.read.ThreadView.{ThreadView}
 use Rattle.dispatcher.specs.declared.read.Place.{Place}
-use Rattle.dispatcher.specs.declared.read.ThreadAnswer.TheVariants as thread
-use Rattle.dispatcher.specs.declared.read.PlaceAnswer.TheVariants as place
+use Rattle.dispatcher.specs.ThreadAnswer as thread
+use Rattle.dispatcher.specs.PlaceAnswer as place
 use Rattle.dpc_work.specs.Work.{Started}
 use Rattle.model.specs.Call as call
 use Rattle.calls.specs.Called.{called}

@@ -11,17 +11,17 @@ use Rattle.images.specs.declared.DpcPhase.{DpcPhase}
 use Rattle.images.specs.declared.DpcPhase.TheVariants as phase
 use Rattle.images.specs.declared.DpcOrigin.{DpcOrigin}
 use Rattle.images.specs.declared.DpcOrigin.TheVariants as origin
-use Rattle.timers.specs.declared.TimerAnswer.TheVariants as timer
-use Rattle.dpc_reads.specs.declared.DpcAnswer.TheVariants as dpc
-use Rattle.dpc_reads.specs.declared.PolicyAnswer.TheVariants as policy
+use Rattle.timers.specs.TimerAnswer as timer
+use Rattle.dpc_reads.specs.DpcAnswer as dpc
+use Rattle.dpc_reads.specs.PolicyAnswer as policy
 use Rattle.dpc_reads.specs.declared.DpcCounters.{DpcCounters}
-use Rattle.dpc_reads.specs.declared.CountersAnswer.TheVariants as counters
-use Rattle.dpc_work.specs.declared.WorkAnswer.{WorkAnswer}
-use Rattle.dpc_work.specs.declared.WorkAnswer.TheVariants as work
+use Rattle.dpc_reads.specs.CountersAnswer as counters
+use Rattle.dpc_work.specs.WorkAnswer.{WorkAnswer}
+use Rattle.dpc_work.specs.WorkAnswer as work
 use Rattle.dispatcher.specs.declared.read.ThreadView.{ThreadView}
-use Rattle.dispatcher.specs.declared.read.ThreadAnswer.TheVariants as thread
+use Rattle.dispatcher.specs.ThreadAnswer as thread
 use Rattle.dispatcher.specs.declared.read.Place.{Place}
-use Rattle.dispatcher.specs.declared.read.PlaceAnswer.TheVariants as place
+use Rattle.dispatcher.specs.PlaceAnswer as place
 use Rattle.calls.specs.Guard.{Kind, Code}
 use Rattle.calls.specs.Guard as kind
 use Rattle.exports.specs.SchedulerAnswer.{tagged, refusal_of, answer_in}

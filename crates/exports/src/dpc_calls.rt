@@ -25,7 +25,7 @@ pub extern "C" fn scheduler_configure_dpc_dispatch(
         return 27;
     }
     let answer = scheduler::dpc_calls::configure_dpc_dispatch(words, first, second);
-    put_answer(out, answer)
+    put_answer(out, answer.into())
 }
 
 #[unsafe(no_mangle)]
@@ -42,7 +42,7 @@ pub extern "C" fn scheduler_insert_queue_dpc(
         return 27;
     }
     let answer = scheduler::dpc_calls::insert_queue_dpc(words, address, first, second);
-    put_answer(out, answer)
+    put_answer(out, answer.into())
 }
 
 #[unsafe(no_mangle)]
@@ -57,7 +57,7 @@ pub extern "C" fn scheduler_remove_queue_dpc(
         return 27;
     }
     let answer = scheduler::dpc_calls::remove_queue_dpc(words, address);
-    put_answer(out, answer)
+    put_answer(out, answer.into())
 }
 
 #[unsafe(no_mangle)]
@@ -84,7 +84,7 @@ pub extern "C" fn scheduler_returned_dpc(
         return 27;
     }
     let answer = scheduler::dpc_calls::returned_dpc(words, address, sequence);
-    put_answer(out, answer)
+    put_answer(out, answer.into())
 }
 
 #[unsafe(no_mangle)]
@@ -100,7 +100,7 @@ pub extern "C" fn scheduler_restored_dpc(
         return 27;
     }
     let answer = scheduler::dpc_calls::restored_dpc(words, address, sequence);
-    put_answer(out, answer)
+    put_answer(out, answer.into())
 }
 
 #[unsafe(no_mangle)]
@@ -111,7 +111,7 @@ pub extern "C" fn scheduler_dpc_initializations(words: &[u64], out: &mut [u64]) 
         return 27;
     }
     let answer = scheduler::dpc_calls::dpc_initializations(words);
-    put_answer(out, answer)
+    put_answer(out, answer.into())
 }
 
 #[unsafe(no_mangle)]
@@ -122,7 +122,7 @@ pub extern "C" fn scheduler_queued_dpcs(words: &[u64], position: u64, out: &mut 
         return 27;
     }
     let answer = scheduler::dpc_calls::queued_dpcs(words, position);
-    put_answer(out, answer)
+    put_answer(out, answer.into())
 }
 
 #[unsafe(no_mangle)]
@@ -132,7 +132,7 @@ pub extern "C" fn scheduler_dpc(words: &[u64], address: u64, out: &mut [u64]) ->
     if out.len() < 24 {
         return 27;
     }
-    let answer = scheduler::dpc_calls::dpc(words, address);
+    let answer = scheduler::dpc_calls::dpc(words, address).map(Some);
     put_dpc_answer(out, answer)
 }
 

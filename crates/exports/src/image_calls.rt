@@ -20,7 +20,7 @@ pub extern "C" fn scheduler_timer_image(
         return 27;
     }
     let answer = scheduler_images::timer_image(words, address, bytes);
-    put_answer(out, answer)
+    put_answer(out, answer.into())
 }
 
 #[unsafe(no_mangle)]
@@ -36,5 +36,5 @@ pub extern "C" fn scheduler_dpc_image(
         return 27;
     }
     let answer = scheduler_images::dpc_image(words, address, bytes);
-    put_answer(out, answer)
+    put_answer(out, answer.into())
 }

@@ -1,6 +1,17 @@
 // A record that a call answers, in lent words: a tag, and the record's values behind it.
 ghost use Rattle.std.specs.Prelude.{◌≡◌};
+ghost use Rattle.answers.specs.Errors.{told_by};
 ghost use Rattle.calls.specs.Guard as kind;
+ghost use Rattle.dispatcher.specs.Read as read;
+ghost use Rattle.dispatcher.specs.PlaceAnswer as place;
+ghost use Rattle.dispatcher.specs.ThreadAnswer as thread;
+ghost use Rattle.dpc_reads.specs.Reads as dpcs;
+ghost use Rattle.dpc_reads.specs.CountersAnswer as counters;
+ghost use Rattle.dpc_reads.specs.DpcAnswer as dpc;
+ghost use Rattle.dpc_reads.specs.PolicyAnswer as policy;
+ghost use Rattle.dpc_work.specs.Work as work;
+ghost use Rattle.timers.specs.Reads as timers;
+ghost use Rattle.timers.specs.TimerAnswer as timer;
 ghost use Rattle.exports.specs.RecordAnswer.{
   located_in,
   state_in,
@@ -23,12 +34,11 @@ ghost use Rattle.exports.specs.RecordAnswer.{
 };
 
 use super::scheduler_answer::{flag, tag};
+use answers::error::SchedulerError;
 use arch::Architecture;
-use dispatcher::read::{PlaceAnswer, ThreadAnswer, ThreadView};
-use dpc_reads::{CountersAnswer, DpcAnswer, DpcCounters, PolicyAnswer};
-use dpc_work::WorkAnswer;
+use dispatcher::read::{Place, ThreadView};
+use dpc_reads::{DpcCounters, DpcPolicy};
 use images::{Dpc, DpcOrigin, DpcPhase, DpcWork, Timer, TimerBacking};
-use timers::TimerAnswer;
 
 // A tag, and where a timer or a DPC stands.
 fn put_located(out: &mut [u64], t: u64, address: u64, a: Architecture, b: TimerBacking)
@@ -204,70 +214,77 @@ fn put_thread(out: &mut [u64], t: ThreadView) -> u64
 
 // ---- answers: the record written to `out`; the number of a refusal, which writes nothing
 
-pub fn put_timer_answer(out: &mut [u64], a: TimerAnswer) -> u64
-    ensures { (result ≡ refusal_as kind.timers a) × (out.new ≡ answer_as kind.timers out.old a) }
+#[tactic(auto, unfolding(crate::specs::RecordAnswer::refusal_as, crate::specs::RecordAnswer::answer_as, crate::specs::RecordAnswer::work_refusal, crate::specs::RecordAnswer::work_answer_in))]
+pub fn put_timer_answer(out: &mut [u64], called: Result<Option<Timer>, SchedulerError>) -> u64
+    ensures { (result ≡ refusal_as kind.timers (told_by timers.told timer.Refused called)) × (out.new ≡ answer_as kind.timers out.old (told_by timers.told timer.Refused called)) }
 {
-    match a {
-        TimerAnswer::Refused(n) => n,
-        TimerAnswer::None => tag(out, 2),
-        TimerAnswer::Timer(t) => put_timer(out, t),
+    match called {
+        Ok(Some(t)) => put_timer(out, t),
+        Ok(None) => tag(out, 2),
+        Err(error) => error.number(),
     }
 }
 
-pub fn put_dpc_answer(out: &mut [u64], a: DpcAnswer) -> u64
-    ensures { (result ≡ refusal_as kind.dpcs a) × (out.new ≡ answer_as kind.dpcs out.old a) }
+#[tactic(auto, unfolding(crate::specs::RecordAnswer::refusal_as, crate::specs::RecordAnswer::answer_as, crate::specs::RecordAnswer::work_refusal, crate::specs::RecordAnswer::work_answer_in))]
+pub fn put_dpc_answer(out: &mut [u64], called: Result<Option<Dpc>, SchedulerError>) -> u64
+    ensures { (result ≡ refusal_as kind.dpcs (told_by dpcs.told dpc.Refused called)) × (out.new ≡ answer_as kind.dpcs out.old (told_by dpcs.told dpc.Refused called)) }
 {
-    match a {
-        DpcAnswer::Refused(n) => n,
-        DpcAnswer::None => tag(out, 2),
-        DpcAnswer::Dpc(d) => put_dpc(out, d),
+    match called {
+        Ok(Some(d)) => put_dpc(out, d),
+        Ok(None) => tag(out, 2),
+        Err(error) => error.number(),
     }
 }
 
-pub fn put_work_answer(out: &mut [u64], a: WorkAnswer) -> u64
-    ensures { (result ≡ work_refusal a) × (out.new ≡ work_answer_in out.old a) }
+#[tactic(auto, unfolding(crate::specs::RecordAnswer::refusal_as, crate::specs::RecordAnswer::answer_as, crate::specs::RecordAnswer::work_refusal, crate::specs::RecordAnswer::work_answer_in))]
+pub fn put_work_answer(out: &mut [u64], called: Result<DpcWork, SchedulerError>) -> u64
+    ensures { (result ≡ work_refusal (work.told called)) × (out.new ≡ work_answer_in out.old (work.told called)) }
 {
-    match a {
-        WorkAnswer::Refused(n) => n,
-        WorkAnswer::Work(w) => put_started(out, w),
+    match called {
+        Ok(w) => put_started(out, w),
+        Err(error) => error.number(),
     }
 }
 
-pub fn put_policy_answer(out: &mut [u64], a: PolicyAnswer) -> u64
-    ensures { (result ≡ refusal_as kind.policies a) × (out.new ≡ answer_as kind.policies out.old a) }
+#[tactic(auto, unfolding(crate::specs::RecordAnswer::refusal_as, crate::specs::RecordAnswer::answer_as, crate::specs::RecordAnswer::work_refusal, crate::specs::RecordAnswer::work_answer_in))]
+pub fn put_policy_answer(out: &mut [u64], called: Result<DpcPolicy, SchedulerError>) -> u64
+    ensures { (result ≡ refusal_as kind.policies (told_by dpcs.selected policy.Refused called)) × (out.new ≡ answer_as kind.policies out.old (told_by dpcs.selected policy.Refused called)) }
 {
-    match a {
-        PolicyAnswer::Refused(n) => n,
-        PolicyAnswer::Unselected => tag(out, 17),
-        PolicyAnswer::Cpu0Dispatch { first, second } => put_pair(out, 18, first, second),
+    match called {
+        Ok(DpcPolicy::Unselected) => tag(out, 17),
+        Ok(DpcPolicy::Cpu0Dispatch { first, second }) => put_pair(out, 18, first, second),
+        Err(error) => error.number(),
     }
 }
 
-pub fn put_counters_answer(out: &mut [u64], a: CountersAnswer) -> u64
-    ensures { (result ≡ refusal_as kind.counts a) × (out.new ≡ answer_as kind.counts out.old a) }
+#[tactic(auto, unfolding(crate::specs::RecordAnswer::refusal_as, crate::specs::RecordAnswer::answer_as, crate::specs::RecordAnswer::work_refusal, crate::specs::RecordAnswer::work_answer_in))]
+pub fn put_counters_answer(out: &mut [u64], called: Result<DpcCounters, SchedulerError>) -> u64
+    ensures { (result ≡ refusal_as kind.counts (told_by counters.Counters counters.Refused called)) × (out.new ≡ answer_as kind.counts out.old (told_by counters.Counters counters.Refused called)) }
 {
-    match a {
-        CountersAnswer::Refused(n) => n,
-        CountersAnswer::Counters(n) => put_counters(out, n),
+    match called {
+        Ok(n) => put_counters(out, n),
+        Err(error) => error.number(),
     }
 }
 
-pub fn put_thread_answer(out: &mut [u64], a: ThreadAnswer) -> u64
-    ensures { (result ≡ refusal_as kind.threads a) × (out.new ≡ answer_as kind.threads out.old a) }
+#[tactic(auto, unfolding(crate::specs::RecordAnswer::refusal_as, crate::specs::RecordAnswer::answer_as, crate::specs::RecordAnswer::work_refusal, crate::specs::RecordAnswer::work_answer_in))]
+pub fn put_thread_answer(out: &mut [u64], called: Result<Option<ThreadView>, SchedulerError>) -> u64
+    ensures { (result ≡ refusal_as kind.threads (told_by read.told_thread thread.Refused called)) × (out.new ≡ answer_as kind.threads out.old (told_by read.told_thread thread.Refused called)) }
 {
-    match a {
-        ThreadAnswer::Refused(n) => n,
-        ThreadAnswer::Thread(t) => put_thread(out, t),
-        ThreadAnswer::None => tag(out, 2),
+    match called {
+        Ok(Some(t)) => put_thread(out, t),
+        Ok(None) => tag(out, 2),
+        Err(error) => error.number(),
     }
 }
 
-pub fn put_place_answer(out: &mut [u64], a: PlaceAnswer) -> u64
-    ensures { (result ≡ refusal_as kind.places a) × (out.new ≡ answer_as kind.places out.old a) }
+#[tactic(auto, unfolding(crate::specs::RecordAnswer::refusal_as, crate::specs::RecordAnswer::answer_as, crate::specs::RecordAnswer::work_refusal, crate::specs::RecordAnswer::work_answer_in))]
+pub fn put_place_answer(out: &mut [u64], called: Result<Option<Place>, SchedulerError>) -> u64
+    ensures { (result ≡ refusal_as kind.places (told_by read.told_place place.Refused called)) × (out.new ≡ answer_as kind.places out.old (told_by read.told_place place.Refused called)) }
 {
-    match a {
-        PlaceAnswer::Refused(n) => n,
-        PlaceAnswer::Object(p) => put_pair(out, 21, p.kind, p.key),
-        PlaceAnswer::None => tag(out, 2),
+    match called {
+        Ok(Some(p)) => put_pair(out, 21, p.kind, p.key),
+        Ok(None) => tag(out, 2),
+        Err(error) => error.number(),
     }
 }

@@ -19,7 +19,7 @@ pub extern "C" fn scheduler_create_thread(words: &mut [u64], priority: u64, out:
         return 27;
     }
     let answer = scheduler::changes::create_thread(words, priority);
-    put_answer(out, answer)
+    put_answer(out, answer.into())
 }
 
 #[unsafe(no_mangle)]
@@ -35,7 +35,7 @@ pub extern "C" fn scheduler_priority(
         return 27;
     }
     let answer = scheduler::changes::priority(words, id, priority);
-    put_answer(out, answer)
+    put_answer(out, answer.into())
 }
 
 #[unsafe(no_mangle)]
@@ -46,7 +46,7 @@ pub extern "C" fn scheduler_yield_current(words: &mut [u64], out: &mut [u64]) ->
         return 27;
     }
     let answer = scheduler::changes::yield_current(words);
-    put_answer(out, answer)
+    put_answer(out, answer.into())
 }
 
 #[unsafe(no_mangle)]
@@ -57,7 +57,7 @@ pub extern "C" fn scheduler_terminate(words: &mut [u64], status: u32, out: &mut 
         return 27;
     }
     let answer = scheduler::changes::terminate(words, status);
-    put_answer(out, answer)
+    put_answer(out, answer.into())
 }
 
 #[unsafe(no_mangle)]
@@ -68,7 +68,7 @@ pub extern "C" fn scheduler_initialize_mutex(words: &mut [u64], key: u64, out: &
         return 27;
     }
     let answer = scheduler::changes::initialize_mutex(words, key);
-    put_answer(out, answer)
+    put_answer(out, answer.into())
 }
 
 #[unsafe(no_mangle)]
@@ -85,7 +85,7 @@ pub extern "C" fn scheduler_adopt_mutex(
         return 27;
     }
     let answer = scheduler::changes::adopt_mutex(words, key, owned != 0, owner);
-    put_answer(out, answer)
+    put_answer(out, answer.into())
 }
 
 #[unsafe(no_mangle)]
@@ -96,7 +96,7 @@ pub extern "C" fn scheduler_release_mutex(words: &mut [u64], key: u64, out: &mut
         return 27;
     }
     let answer = scheduler::changes::release_mutex(words, key);
-    put_answer(out, answer)
+    put_answer(out, answer.into())
 }
 
 #[unsafe(no_mangle)]
@@ -113,7 +113,7 @@ pub extern "C" fn scheduler_initialize_event(
         return 27;
     }
     let answer = scheduler::changes::initialize_event(words, key, manual != 0, signaled != 0);
-    put_answer(out, answer)
+    put_answer(out, answer.into())
 }
 
 #[unsafe(no_mangle)]
@@ -124,7 +124,7 @@ pub extern "C" fn scheduler_set_event(words: &mut [u64], key: u64, out: &mut [u6
         return 27;
     }
     let answer = scheduler::changes::set_event(words, key);
-    put_answer(out, answer)
+    put_answer(out, answer.into())
 }
 
 #[unsafe(no_mangle)]
@@ -135,7 +135,7 @@ pub extern "C" fn scheduler_reset_event(words: &mut [u64], key: u64, out: &mut [
         return 27;
     }
     let answer = scheduler::changes::reset_event(words, key);
-    put_answer(out, answer)
+    put_answer(out, answer.into())
 }
 
 #[unsafe(no_mangle)]
@@ -152,7 +152,7 @@ pub extern "C" fn scheduler_retire_event_backing(
         return 27;
     }
     let answer = scheduler::changes::retire_event_backing(words, base, size, layout);
-    put_answer(out, answer)
+    put_answer(out, answer.into())
 }
 
 #[unsafe(no_mangle)]
@@ -168,7 +168,7 @@ pub extern "C" fn scheduler_delay_until(
         return 27;
     }
     let answer = scheduler::changes::delay_until(words, deadline, irql);
-    put_answer(out, answer)
+    put_answer(out, answer.into())
 }
 
 #[unsafe(no_mangle)]
@@ -179,7 +179,7 @@ pub extern "C" fn scheduler_advance_to(words: &mut [u64], time: u64, out: &mut [
         return 27;
     }
     let answer = scheduler::changes::advance_to(words, time);
-    put_answer(out, answer)
+    put_answer(out, answer.into())
 }
 
 #[unsafe(no_mangle)]
@@ -190,7 +190,7 @@ pub extern "C" fn scheduler_current(words: &[u64], out: &mut [u64]) -> u64
         return 27;
     }
     let answer = scheduler::reads::current(words);
-    put_answer(out, answer)
+    put_answer(out, answer.into())
 }
 
 #[unsafe(no_mangle)]
@@ -201,7 +201,7 @@ pub extern "C" fn scheduler_mutex_owner(words: &[u64], key: u64, out: &mut [u64]
         return 27;
     }
     let answer = scheduler::reads::mutex_owner(words, key);
-    put_answer(out, answer)
+    put_answer(out, answer.into())
 }
 
 #[unsafe(no_mangle)]
@@ -212,7 +212,7 @@ pub extern "C" fn scheduler_mutex_waiters(words: &[u64], key: u64, out: &mut [u6
         return 27;
     }
     let answer = scheduler::reads::mutex_waiters(words, key);
-    put_answer(out, answer)
+    put_answer(out, answer.into())
 }
 
 #[unsafe(no_mangle)]
@@ -223,7 +223,7 @@ pub extern "C" fn scheduler_event_state(words: &[u64], key: u64, out: &mut [u64]
         return 27;
     }
     let answer = scheduler::reads::event_state(words, key);
-    put_answer(out, answer)
+    put_answer(out, answer.into())
 }
 
 #[unsafe(no_mangle)]
@@ -234,7 +234,7 @@ pub extern "C" fn scheduler_event_states(words: &[u64], position: u64, out: &mut
         return 27;
     }
     let answer = scheduler::reads::event_states(words, position);
-    put_answer(out, answer)
+    put_answer(out, answer.into())
 }
 
 #[unsafe(no_mangle)]
@@ -251,7 +251,7 @@ pub extern "C" fn scheduler_require_event_release(
         return 27;
     }
     let answer = scheduler::reads::require_event_release(words, base, size, layout);
-    put_answer(out, answer)
+    put_answer(out, answer.into())
 }
 
 #[unsafe(no_mangle)]
@@ -267,7 +267,7 @@ pub extern "C" fn scheduler_words_needed(
         return 27;
     }
     let answer = opening::words_needed(threads, objects, dpcs);
-    put_answer(out, answer)
+    put_answer(out, answer.into())
 }
 
 #[unsafe(no_mangle)]
@@ -285,7 +285,7 @@ pub extern "C" fn scheduler_open(
         return 27;
     }
     let answer = scheduler::changes::open(words, priority, threads, objects, dpcs);
-    put_answer(out, answer)
+    put_answer(out, answer.into())
 }
 
 #[unsafe(no_mangle)]
@@ -304,7 +304,7 @@ pub extern "C" fn scheduler_wait(
         return 27;
     }
     let answer = scheduler::changes::wait(words, list, all != 0, timed != 0, deadline, irql);
-    put_answer(out, answer)
+    put_answer(out, answer.into())
 }
 
 #[unsafe(no_mangle)]
@@ -315,5 +315,5 @@ pub extern "C" fn scheduler_dispatch(words: &mut [u64], waiting: &mut [u64], out
         return 27;
     }
     let answer = scheduler::changes::dispatch(words, waiting);
-    put_answer(out, answer)
+    put_answer(out, answer.into())
 }

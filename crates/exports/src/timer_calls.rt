@@ -32,7 +32,7 @@ pub extern "C" fn scheduler_initialize_timer(
     let a = images::architecture_of(architecture);
     let b = images::backing_of(backing, base, size, mapped);
     let answer = scheduler::timer_calls::initialize_timer(words, address, a, b, manual != 0);
-    put_answer(out, answer)
+    put_answer(out, answer.into())
 }
 
 #[unsafe(no_mangle)]
@@ -56,7 +56,7 @@ pub extern "C" fn scheduler_initialize_dpc(
     let a = images::architecture_of(architecture);
     let b = images::backing_of(backing, base, size, mapped);
     let answer = scheduler::timer_calls::initialize_dpc(words, address, a, b, routine, context);
-    put_answer(out, answer)
+    put_answer(out, answer.into())
 }
 
 #[unsafe(no_mangle)]
@@ -75,7 +75,7 @@ pub extern "C" fn scheduler_set_timer(
         return 27;
     }
     let answer = scheduler::timer_calls::set_timer(words, address, due, absolute != 0, period, dpc);
-    put_answer(out, answer)
+    put_answer(out, answer.into())
 }
 
 // A due of -d is d ticks from now; a due that is not negative is a time.
@@ -94,7 +94,7 @@ pub extern "C" fn scheduler_set_timer_signed(
         return 27;
     }
     let answer = scheduler::timer_calls::set_timer_signed(words, address, due, period, dpc);
-    put_answer(out, answer)
+    put_answer(out, answer.into())
 }
 
 #[unsafe(no_mangle)]
@@ -105,7 +105,7 @@ pub extern "C" fn scheduler_cancel_timer(words: &mut [u64], address: u64, out: &
         return 27;
     }
     let answer = scheduler::timer_calls::cancel_timer(words, address);
-    put_answer(out, answer)
+    put_answer(out, answer.into())
 }
 
 #[unsafe(no_mangle)]
@@ -121,7 +121,7 @@ pub extern "C" fn scheduler_retire_timer_backing(
         return 27;
     }
     let answer = scheduler::timer_calls::retire_timer_backing(words, address, size);
-    put_answer(out, answer)
+    put_answer(out, answer.into())
 }
 
 #[unsafe(no_mangle)]
@@ -137,7 +137,7 @@ pub extern "C" fn scheduler_require_timer_release(
         return 27;
     }
     let answer = scheduler::timer_calls::require_timer_release(words, address, size);
-    put_answer(out, answer)
+    put_answer(out, answer.into())
 }
 
 #[unsafe(no_mangle)]
@@ -148,7 +148,7 @@ pub extern "C" fn scheduler_timer_initializations(words: &[u64], out: &mut [u64]
         return 27;
     }
     let answer = scheduler::timer_calls::timer_initializations(words);
-    put_answer(out, answer)
+    put_answer(out, answer.into())
 }
 
 #[unsafe(no_mangle)]
@@ -164,7 +164,7 @@ pub extern "C" fn scheduler_timer_read_overlap(
         return 27;
     }
     let answer = scheduler::timer_calls::timer_read_overlap(words, address, size);
-    put_answer(out, answer)
+    put_answer(out, answer.into())
 }
 
 #[unsafe(no_mangle)]
@@ -180,7 +180,7 @@ pub extern "C" fn scheduler_timer_metadata_overlap(
         return 27;
     }
     let answer = scheduler::timer_calls::timer_metadata_overlap(words, address, size);
-    put_answer(out, answer)
+    put_answer(out, answer.into())
 }
 
 #[unsafe(no_mangle)]
@@ -190,7 +190,7 @@ pub extern "C" fn scheduler_timer(words: &[u64], address: u64, out: &mut [u64]) 
     if out.len() < 24 {
         return 27;
     }
-    let answer = scheduler::timer_calls::timer(words, address);
+    let answer = scheduler::timer_calls::timer(words, address).map(Some);
     put_timer_answer(out, answer)
 }
 

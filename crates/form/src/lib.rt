@@ -27,8 +27,9 @@
 #![tactic(auto)]
 
 ghost use Rattle.std.specs.Prelude.{◌≡◌};
-ghost use Rattle.form.specs.Form.{in_form};
+ghost use Rattle.form.specs.Form.{in_form, checked};
 
+use answers::error::SchedulerError;
 use form_dpc::{counts, dpc_records, queue};
 
 pub mod header;
@@ -63,4 +64,15 @@ pub fn in_form(w: &[u64]) -> bool
         && counts::sum_holds(w, d.queued, d.active)
         && counts::starts_pass(w, d.active)
         && counts::returns_pass(w, d.returning)
+}
+
+// What every call but an opening asks before all else.
+#[tactic(auto, unfolding(crate::specs::Form::checked))]
+pub fn check(w: &[u64]) -> Result<(), SchedulerError>
+    ensures { result ≡ checked w.now }
+{
+    if !in_form(w) {
+        return Err(SchedulerError::OutOfForm);
+    }
+    Ok(())
 }

@@ -1,15 +1,22 @@
 // The calls on mutexes. They are total: words out of form get an answer too, if no useful one.
 #![tactic(auto)]
 
-ghost use Rattle.std.specs.Prelude.{◌≡◌};
+ghost use Rattle.std.specs.Prelude.{◌≡◌, ◌+◌, get_or, is_some, unwrap_or};
+ghost use Rattle.words.specs.Layout as layout;
+ghost use Rattle.answers.specs.declared.Answer.TheVariants as answer;
+ghost use Rattle.answers.specs.Errors.{refusal, thread_or_none, answer_of, done};
 ghost use Rattle.answers.specs.Outcome.{outcome};
-ghost use Rattle.mutexes.specs.Mutexes.{new_mutex, owner_of, mutex_refusal, initialized, live, known_refusal, adopt_refusal, wanted_owner, adopted, owner_answer, waits_for, waiters_answer, release_refusal, freed, released};
+ghost use Rattle.threading.specs.Thread.{numbered};
+ghost use Rattle.mutexes.specs.Mutexes.{new_mutex, owner_of, mutex_refusal, initialized, live, known_refusal, adopt_refusal, adopted, owner_answer, waits_for, waiters_answer, released};
 
-use answers::Answer;
+use answers::ThreadId;
+use answers::error::SchedulerError;
 use chains::ready;
+use objects::found;
 use waits::{lists, object};
 use words::layout;
 
+#[tactic(auto, unfolding(crate::specs::Mutexes::new_mutex))]
 fn new_mutex(owner: u64) -> objects::Object
     ensures { result ≡ new_mutex owner }
 {
@@ -21,186 +28,135 @@ fn new_mutex(owner: u64) -> objects::Object
     }
 }
 
-// The thread that owns the mutex, or 0; 0 also where there is no such mutex.
-fn owner_of(w: &[u64], key: u64) -> u64
-    ensures { result ≡ owner_of w.now key }
+// The thread that owns the mutex whose record stands at place `at`, if one does.
+fn owner_at(w: &[u64], at: usize) -> Option<ThreadId>
+    ensures { result ≡ numbered (get_or w.now (at + layout.owner) 0) }
 {
-    let at = objects::place_of(w, objects::MUTEX, key);
-    if at == 0 {
-        return 0;
-    }
-    words::get_in(w, at, layout::OWNER)
+    let owner = words::get_in(w, at, layout::OWNER);
+    (owner != 0).then_some(ThreadId(owner))
 }
 
-fn mutex_refusal(w: &[u64], key: u64) -> u64
-    ensures { result ≡ mutex_refusal w.now key }
+// The thread that owns the mutex; none also where there is no such mutex.
+#[tactic(auto, unfolding(crate::specs::Mutexes::owner_of))]
+fn owner_of(w: &[u64], key: u64) -> Option<ThreadId>
+    ensures { result ≡ numbered (owner_of w.now key) }
+{
+    owner_at(w, found::object(w, objects::MUTEX, key)?)
+}
+
+// Whether the key can be a new mutex's, or the mutex that it is made anew.
+#[tactic(auto, unfolding(crate::specs::Mutexes::mutex_refusal))]
+fn check_mutex(w: &[u64], key: u64) -> Result<(), SchedulerError>
+    ensures { refusal result ≡ mutex_refusal w.now key }
 {
     if objects::collision(w, objects::MUTEX, key) {
-        return 5;
+        return Err(SchedulerError::OtherKind);
     }
-    if key == 0 {
-        return 4;
+    if key == 0 || objects::is_full(w, key) {
+        return Err(SchedulerError::Full);
     }
-    if objects::is_full(w, key) {
-        return 4;
+    if owner_of(w, key).is_some() || wakes::waits_on(w, objects::MUTEX, key) {
+        return Err(SchedulerError::InUse);
     }
-    if owner_of(w, key) != 0 {
-        return 6;
-    }
-    if wakes::waits_on(w, objects::MUTEX, key) {
-        return 6;
-    }
-    0
+    Ok(())
 }
 
-pub fn initialize_mutex(w: &mut [u64], key: u64) -> Answer
-    ensures { outcome result w.new ≡ initialized w.old key }
+#[tactic(auto, unfolding(crate::specs::Mutexes::initialized))]
+pub fn initialize_mutex(w: &mut [u64], key: u64) -> Result<(), SchedulerError>
+    ensures { outcome (done result) w.new ≡ initialized w.old key }
 {
-    let refusal = mutex_refusal(w, key);
-    if refusal != 0 {
-        return Answer::Refused(refusal);
-    }
+    check_mutex(w, key)?;
     objects::enter(w, key, new_mutex(0));
-    Answer::Done
+    Ok(())
 }
 
 // Whether there is such a thread and it has not exited.
+#[tactic(auto, unfolding(crate::specs::Mutexes::live))]
 fn is_live(w: &[u64], id: u64) -> bool
     ensures { result ≡ live w.now id }
 {
-    if threads::is_known(w, id) {
-        return !object::is_exited(w, id);
-    }
-    false
+    threads::is_known(w, id) && !object::is_exited(w, id)
 }
 
-// A known mutex may be adopted with the owner it has; a new one as it may be initialized.
-fn known_refusal(w: &[u64], key: u64, owner: u64) -> u64
-    ensures { result ≡ known_refusal w.now key owner }
+// A known mutex may be adopted with the owner it has, 0 for none; a new one as it may be initialized.
+#[tactic(auto, unfolding(crate::specs::Mutexes::known_refusal, crate::specs::Mutexes::owner_of))]
+fn check_known(w: &[u64], key: u64, owner: u64) -> Result<(), SchedulerError>
+    ensures { refusal result ≡ known_refusal w.now key owner }
 {
-    if objects::place_of(w, objects::MUTEX, key) == 0 {
-        return mutex_refusal(w, key);
+    match found::object(w, objects::MUTEX, key) {
+        None => check_mutex(w, key),
+        Some(at) if words::get_in(w, at, layout::OWNER) == owner => Ok(()),
+        Some(_) => Err(SchedulerError::NotOwner),
     }
-    if owner_of(w, key) != owner {
-        return 10;
-    }
-    0
 }
 
-// `owner` counts where `owned` is true; else the mutex has none.
-fn adopt_refusal(w: &[u64], key: u64, owned: bool, owner: u64) -> u64
-    ensures { result ≡ adopt_refusal w.now key owned owner }
+#[tactic(auto, unfolding(crate::specs::Mutexes::adopt_refusal))]
+fn check_adopt(w: &[u64], key: u64, owner: Option<u64>) -> Result<(), SchedulerError>
+    ensures { refusal result ≡ adopt_refusal w.now key (is_some owner) (unwrap_or owner 0) }
 {
-    if owned {
-        if !is_live(w, owner) {
-            return 10;
-        }
-        return known_refusal(w, key, owner);
+    match owner {
+        Some(id) if !is_live(w, id) => Err(SchedulerError::NotOwner),
+        _ => check_known(w, key, owner.unwrap_or(0)),
     }
-    known_refusal(w, key, 0)
 }
 
-// The owner's number, or 0 for none.
-fn wanted(owned: bool, owner: u64) -> u64
-    ensures { result ≡ wanted_owner owned owner }
+// A live guest mutex made known; a known one stays as it is. `owner` counts where `owned` is true; else the mutex has none.
+#[tactic(auto, unfolding(crate::specs::Mutexes::adopted, crate::specs::Mutexes::adopt_refusal))]
+pub fn adopt_mutex(w: &mut [u64], key: u64, owned: bool, owner: u64) -> Result<(), SchedulerError>
+    ensures { outcome (done result) w.new ≡ adopted w.old key owned owner }
 {
-    if owned { owner } else { 0 }
+    let owner = owned.then_some(owner);
+    check_adopt(w, key, owner)?;
+    if found::object(w, objects::MUTEX, key).is_none() {
+        objects::enter(w, key, new_mutex(owner.unwrap_or(0)));
+    }
+    Ok(())
 }
 
-// A live guest mutex made known; a known one stays as it is.
-pub fn adopt_mutex(w: &mut [u64], key: u64, owned: bool, owner: u64) -> Answer
-    ensures { outcome result w.new ≡ adopted w.old key owned owner }
+#[tactic(auto, unfolding(crate::specs::Mutexes::owner_answer, crate::specs::Mutexes::owner_of))]
+pub fn mutex_owner(w: &[u64], key: u64) -> Result<Option<ThreadId>, SchedulerError>
+    ensures { answer_of thread_or_none result ≡ owner_answer w.now key }
 {
-    let refusal = adopt_refusal(w, key, owned, owner);
-    if refusal != 0 {
-        return Answer::Refused(refusal);
-    }
-    if objects::place_of(w, objects::MUTEX, key) == 0 {
-        objects::enter(w, key, new_mutex(wanted(owned, owner)));
-    }
-    Answer::Done
-}
-
-pub fn mutex_owner(w: &[u64], key: u64) -> Answer
-    ensures { result ≡ owner_answer w.now key }
-{
-    if objects::place_of(w, objects::MUTEX, key) == 0 {
-        return Answer::Refused(2);
-    }
-    let owner = owner_of(w, key);
-    if owner == 0 {
-        return Answer::None;
-    }
-    Answer::Thread(owner)
+    let at = found::object(w, objects::MUTEX, key).ok_or(SchedulerError::Unknown)?;
+    Ok(owner_at(w, at))
 }
 
 // 1 where the waiting thread's list has the mutex.
+#[tactic(auto, unfolding(crate::specs::Mutexes::waits_for))]
 fn waits_for(w: &[u64], id: u64, key: u64) -> u64
     ensures { result ≡ waits_for w.now id key }
 {
-    if lists::has_pair(
+    u64::from(lists::has_pair(
         w,
         threads::places_at(id),
         0,
         threads::count_of(w, id),
         objects::MUTEX,
         key,
-    ) {
-        return 1;
-    }
-    0
+    ))
 }
 
 // How many threads wait for the mutex.
-pub fn mutex_waiters(w: &[u64], key: u64) -> Answer
-    ensures { result ≡ waiters_answer w.now key }
+pub fn mutex_waiters(w: &[u64], key: u64) -> u64
+    ensures { answer.Count result ≡ waiters_answer w.now key }
 {
-    let mut n: u64 = 0;
-    let mut at = chains::first_of(w, ready::waiters_chain());
-    let mut left: usize = 4096;
-    while 0 < left {
-        if at == 0 {
-            return Answer::Count(n);
-        }
-        n += waits_for(w, at, key);
-        at = chains::next_of(w, ready::waiters_chain(), at);
-        left -= 1;
-    }
-    Answer::Count(n)
-}
-
-fn release_refusal(w: &[u64], key: u64) -> u64
-    ensures { result ≡ release_refusal w.now key }
-{
-    let id = words::get(w, layout::CURRENT);
-    if id == 0 {
-        return 3;
-    }
-    if objects::place_of(w, objects::MUTEX, key) == 0 {
-        return 2;
-    }
-    if owner_of(w, key) != id {
-        return 10;
-    }
-    0
-}
-
-fn free(w: &mut [u64], key: u64)
-    ensures { w.new ≡ freed w.old key }
-{
-    let at = objects::place_of(w, objects::MUTEX, key);
-    words::put_in(w, at, layout::OWNER, 0);
+    ready::waiters_chain()
+        .members(w)
+        .map(|id| waits_for(w, id, key))
+        .sum()
 }
 
 // The current thread's mutex without owner, and one wake pass.
-pub fn release_mutex(w: &mut [u64], key: u64) -> Answer
-    ensures { outcome result w.new ≡ released w.old key }
+#[tactic(auto, unfolding(crate::specs::Mutexes::released, crate::specs::Mutexes::release_refusal, crate::specs::Mutexes::freed, crate::specs::Mutexes::owner_of))]
+pub fn release_mutex(w: &mut [u64], key: u64) -> Result<(), SchedulerError>
+    ensures { outcome (done result) w.new ≡ released w.old key }
 {
-    let refusal = release_refusal(w, key);
-    if refusal != 0 {
-        return Answer::Refused(refusal);
+    let ThreadId(id) = threading::current(w).ok_or(SchedulerError::NoCurrentThread)?;
+    let at = found::object(w, objects::MUTEX, key).ok_or(SchedulerError::Unknown)?;
+    if words::get_in(w, at, layout::OWNER) != id {
+        return Err(SchedulerError::NotOwner);
     }
-    free(w, key);
+    words::put_in(w, at, layout::OWNER, 0);
     wakes::wake(w);
-    Answer::Done
+    Ok(())
 }

@@ -1,6 +1,8 @@
 // Mutexes, events and timers in one table that rises by key; DPCs in another, that rises by address.
 #![tactic(auto)]
 
+pub mod found;
+
 ghost use Rattle.std.specs.Prelude.{◌≡◌};
 ghost use Rattle.objects.specs.Objects.{objects_base, dpcs_base, object_count, found_at, object_found, dpc_found, place_of, collides, full, put_object, inserted, entered};
 

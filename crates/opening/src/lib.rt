@@ -1,98 +1,89 @@
 // Opening a scheduler in lent words.
 #![tactic(auto)]
 
-ghost use Rattle.std.specs.Prelude.{◌≡◌, false};
+ghost use Rattle.std.specs.Prelude.{◌≡◌};
 ghost use Rattle.words.specs.Layout as at;
+ghost use Rattle.answers.specs.declared.Answer.TheVariants as answer;
+ghost use Rattle.answers.specs.Errors.{refusal, answer_of, done};
 ghost use Rattle.answers.specs.Outcome.{outcome};
-ghost use Rattle.opening.specs.Open.{bad_priority, bad_limits, words_needed, open_refusal, cleared, limited, started, opened, sized};
+ghost use Rattle.opening.specs.Open.{bad_priority, bad_limits, open_refusal, cleared, limited, started, opened, sized};
 
-use answers::Answer;
+use answers::error::SchedulerError;
 use words::layout;
 
 // Priorities are 1 to 31.
+#[tactic(auto, unfolding(crate::specs::Open::bad_priority))]
 pub fn is_bad_priority(p: u64) -> bool
     ensures { result ≡ bad_priority p }
 {
-    if p < 1 {
-        return true;
-    }
-    31 < p
+    p < 1 || 31 < p
 }
 
 // Limits are 1 to 256 threads, and up to 4096 objects and 4096 DPCs.
+#[tactic(auto, unfolding(crate::specs::Open::bad_limits))]
 pub fn has_bad_limits(t: u64, o: u64, d: u64) -> bool
     ensures { result ≡ bad_limits t o d }
 {
-    if t < 1 {
-        return true;
-    }
-    if layout::MOST_THREADS < t {
-        return true;
-    }
-    if 4096 < o {
-        return true;
-    }
-    4096 < d
-}
-
-fn needed(t: u64, o: u64, d: u64) -> u64
-    requires { bad_limits t o d ≡ false }
-    ensures { result ≡ words_needed t o d }
-{
-    256 + 160 * t + 32 * (o + d)
+    t < 1 || layout::MOST_THREADS < t || 4096 < o || 4096 < d
 }
 
 // The words that a scheduler of these limits needs.
-pub fn words_needed(t: u64, o: u64, d: u64) -> Answer
-    ensures { result ≡ sized t o d }
+#[tactic(auto, unfolding(crate::specs::Open::sized), using(crate::proofs::OpenLaws::limits))]
+pub fn words_needed(t: u64, o: u64, d: u64) -> Result<u64, SchedulerError>
+    ensures { answer_of answer.Count result ≡ sized t o d }
 {
     if has_bad_limits(t, o, d) {
-        return Answer::Refused(27);
+        return Err(SchedulerError::OutOfForm);
     }
-    Answer::Count(needed(t, o, d))
+    Ok(256 + 160 * t + 32 * (o + d))
 }
 
-fn open_refusal(w: &[u64], priority: u64, t: u64, o: u64, d: u64) -> u64
-    ensures { result ≡ open_refusal w.now priority t o d }
+#[derive(Clone, Copy)]
+struct Limits {
+    threads: u64,
+    objects: u64,
+    dpcs: u64,
+}
+
+#[tactic(auto, unfolding(crate::specs::Open::open_refusal, crate::specs::Open::sized))]
+fn check_open(w: &[u64], priority: u64, limits: Limits) -> Result<(), SchedulerError>
+    ensures { refusal result ≡ open_refusal w.now priority limits.threads limits.objects limits.dpcs }
 {
     if is_bad_priority(priority) {
-        return 1;
+        return Err(SchedulerError::InvalidPriority);
     }
-    if has_bad_limits(t, o, d) {
-        return 27;
+    if (w.len() as u64) < words_needed(limits.threads, limits.objects, limits.dpcs)? {
+        return Err(SchedulerError::OutOfForm);
     }
-    if (w.len() as u64) < needed(t, o, d) {
-        return 27;
-    }
-    0
+    Ok(())
 }
 
 // The header's words set to 0.
 fn clear(w: &mut [u64])
     ensures { w.new ≡ cleared at.unused w.old }
 {
-    let mut i: usize = 0;
-    while i < layout::UNUSED {
+    for i in 0..layout::UNUSED {
         words::put(w, i, 0);
-        i += 1;
     }
 }
 
-fn limit(w: &mut [u64], t: u64, o: u64, d: u64)
-    ensures { w.new ≡ limited w.old t o d }
+#[tactic(auto, unfolding(crate::specs::Open::limited))]
+fn limit(w: &mut [u64], limits: Limits)
+    ensures { w.new ≡ limited w.old limits.threads limits.objects limits.dpcs }
 {
-    words::put(w, layout::THREAD_LIMIT, t);
-    words::put(w, layout::OBJECT_LIMIT, o);
-    words::put(w, layout::DPC_LIMIT, d);
+    words::put(w, layout::THREAD_LIMIT, limits.threads);
+    words::put(w, layout::OBJECT_LIMIT, limits.objects);
+    words::put(w, layout::DPC_LIMIT, limits.dpcs);
     words::put(w, layout::THREADS, 1);
     words::put(w, layout::CURRENT, 1);
 }
 
-fn start(w: &mut [u64], priority: u64, t: u64, o: u64, d: u64)
-    ensures { w.new ≡ started w.old priority t o d }
+#[tactic(auto, unfolding(crate::specs::Open::started, threads::specs::Thread::no_wait))]
+fn start(w: &mut [u64], priority: u64, limits: Limits)
+    ensures { w.new ≡ started w.old priority limits.threads limits.objects limits.dpcs }
 {
     clear(w);
-    limit(w, t, o, d);
+    limit(w, limits);
     threads::write_wait(w, 1, threads::no_wait());
     threads::write_thread(
         w,
@@ -107,13 +98,16 @@ fn start(w: &mut [u64], priority: u64, t: u64, o: u64, d: u64)
 }
 
 // A scheduler with thread 1 running at `priority`, and the rest empty or 0.
-pub fn open(w: &mut [u64], priority: u64, t: u64, o: u64, d: u64) -> Answer
-    ensures { outcome result w.new ≡ opened w.old priority t o d }
+#[tactic(auto, unfolding(crate::specs::Open::opened))]
+pub fn open(w: &mut [u64], priority: u64, t: u64, o: u64, d: u64) -> Result<(), SchedulerError>
+    ensures { outcome (done result) w.new ≡ opened w.old priority t o d }
 {
-    let refusal = open_refusal(w, priority, t, o, d);
-    if refusal != 0 {
-        return Answer::Refused(refusal);
-    }
-    start(w, priority, t, o, d);
-    Answer::Done
+    let limits = Limits {
+        threads: t,
+        objects: o,
+        dpcs: d,
+    };
+    check_open(w, priority, limits)?;
+    start(w, priority, limits);
+    Ok(())
 }

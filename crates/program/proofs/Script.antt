@@ -16,15 +16,17 @@ use Rattle.answers.specs.Outcome.{outcome}
 use Rattle.clock.specs.declared.GuestClock.{GuestClock}
 use Rattle.clock.specs.declared.ClockError.{ClockError}
 use Rattle.clock.specs.declared.Outcome as clock
-use Rattle.dpc_work.specs.declared.WorkAnswer.{WorkAnswer}
-use Rattle.dpc_work.specs.declared.WorkAnswer.TheVariants as work
+use Rattle.dpc_work.specs.WorkAnswer.{WorkAnswer}
+use Rattle.dpc_work.specs.WorkAnswer as work
+use Rattle.std.specs.Prelude.{is_some}
 use Rattle.words.specs.Layout as at
 use Rattle.words.specs.Word.{top_bit}
 use Rattle.threads.specs.Thread.{thread_count}
 use Rattle.dispatcher.specs.Dispatch.{Dispatched, listed_in, listed, listed_to, noted, noted_to, is_waiting}
 use Rattle.dispatcher.specs.TimerDue.{next_time}
 use Rattle.dispatcher.specs.Dispatched.{dispatched}
-use Rattle.std.specs.Prelude.{Option}
+use Rattle.std.specs.Prelude.{Option, Some, None}
+use Rattle.std.specs.Option.{option_map}
 use Rattle.script_lex.specs.declared.command.Command.{Command}
 use Rattle.script_print.specs.Print.{bare_answer}
 use Rattle.opening.specs.Open as words
@@ -134,7 +136,7 @@ unfolding dispatched listed
 length-output w out =
     (one_of out (ltb (length out) (get_or w at.thread_limit 0)) _ _ (record { same = refl }) (one_of out (eqb (get_or w at.current 0) 0) _ _
     (one_of out (eqb (top_bit (get_or w at.ready 0)) 0) _ _
-    (one_of out (next_time w).some _ _ (record { same = refl }) (one_of out (eqb (listed_to w) 0) _ _ (record { same = length-listed (thread_count w) w out 1 0 }) (record { same = length-listed (thread_count w) w out 1 0 })))
+    (one_of out (is_some (next_time w)) _ _ (record { same = refl }) (one_of out (eqb (listed_to w) 0) _ _ (record { same = length-listed (thread_count w) w out 1 0 }) (record { same = length-listed (thread_count w) w out 1 0 })))
     (record { same = refl }))
     (record { same = refl }))).same
 
@@ -227,30 +229,20 @@ module _ (w out : List ℕ) (s : Session) (st : State) (h : Stands w out s st) w
     created-same (Ok c) = by-clock _ (record { it = tt }) refl
     created-same (Err why) = by-clock _ (record { it = tt }) refl
 
-    moved_same : (f : GuestClock → clock.Outcome) → Same (performed_as (program.moved s (f s.clock)) w out) (by_clock st (program.moved s (f s.clock)))
+    moved_same : (o : Option clock.Outcome) → Same (performed_as (program.moved s o) w out) (by_clock st (program.moved s o))
     unfolding program.moved program.done_answer
-    moved_same f = by-clock _ (speaks s.timed (f s.clock).answer) (go s.timed)
+    moved_same None = by-clock _ (record { it = tt }) refl
+    moved_same (Some o) = by-clock _ (done o.answer) refl
       where
         done : (x : std.Result ⊤ ClockError) → Speaks (told (program.done_answer x))
         done (Ok x) = record { it = tt }
         done (Err why) = record { it = tt }
 
-        speaks : (b : Bool) (x : std.Result ⊤ ClockError) → Speaks (told (cond b (record { answer = program.done_answer x; session = record { opened = s.opened; timed = s.timed; clock = (f s.clock).clock } }) (unchanged s (answer.Refused 28))).answer)
-        speaks true x = done x
-        speaks false x = record { it = tt }
-
-        go : (b : Bool) → (cond b (record { answer = program.done_answer (f s.clock).answer; session = record { opened = s.opened; timed = s.timed; clock = (f s.clock).clock } }) (unchanged s (answer.Refused 28))).session.opened ≡ s.opened
-        go true = refl
-        go false = refl
-
-    told_same : (f : GuestClock → std.Result ℕ ClockError) → Same (performed_as (program.told s (f s.clock)) w out) (by_clock st (program.told s (f s.clock)))
+    told_same : (r : Option (std.Result ℕ ClockError)) → Same (performed_as (program.told s r) w out) (by_clock st (program.told s r))
     unfolding program.told program.reading_answer
-    told_same f = by-clock _ (speaks s.timed (f s.clock)) refl
-      where
-        speaks : (b : Bool) (x : std.Result ℕ ClockError) → Speaks (told (cond b (program.reading_answer x) (answer.Refused 28)))
-        speaks true (Ok n) = record { it = tt }
-        speaks true (Err why) = record { it = tt }
-        speaks false x = record { it = tt }
+    told_same None = by-clock _ (record { it = tt }) refl
+    told_same (Some (Ok n)) = by-clock _ (record { it = tt }) refl
+    told_same (Some (Err why)) = by-clock _ (record { it = tt }) refl
 
     performs : (m : Asked) → AskedFits m → Same (gone_on w out s m) (when_open s st m)
     unfolding gone_on on_words when_open
@@ -261,8 +253,8 @@ module _ (w out : List ℕ) (s : Session) (st : State) (h : Stands w out s st) w
     performs (works address) fit = by_call_lem bare (call.StartDpc address) _ _ (work-told (called w (call.StartDpc address)).answer) refl (bare-speaks _ (start-speaks address st)) fit tt
     performs dispatching fit = dispatch-same
     performs (creates made) fit = created-same made
-    performs (moves f) fit = moved_same f
-    performs (asks f) fit = told_same f
+    performs (moves f) fit = moved_same (option_map f s.clock)
+    performs (asks f) fit = told_same (option_map f s.clock)
 
   -- ---- before an `open`
 
@@ -275,7 +267,7 @@ module _ (w out : List ℕ) (s : Session) (st : State) (h : Stands w out s st) w
     start p = by_open p 16 64 64
 
     abbrev with-opened : Bool → Session
-    with-opened b = record { opened = b; timed = s.timed; clock = s.clock }
+    with-opened b = record { opened = b; clock = s.clock }
 
     opened-is : (p : ℕ) (b : Bool) → eqb (words.open_refusal w p 16 64 64) 0 ≡ b
         → opens_with w p ≡ cond b (outcome answer.Done (words.started w p 16 64 64)) (outcome (answer.Refused (words.open_refusal w p 16 64 64)) w)

@@ -1,6 +1,7 @@
 -- What the log makes of a script: how the answer of a command's call is shown, and what a list of commands answers. The log is told the
 -- commands alone.
 use Rattle.std.specs.Prelude.{ℕ, List, [], ◌∷◌, cond, eqb}
+use Rattle.std.specs.Option.{option_map}
 use Rattle.model.specs.State.{State}
 use Rattle.model.specs.Answer.{Answer, Outcome}
 use Rattle.model.specs.Answer as log
@@ -90,14 +91,14 @@ when_open s st (bares c p) = by_call s bare (step c st)
 when_open s st (works address) = by_call s bare (step (call.StartDpc address) st)
 when_open s st dispatching = by_call s plain (step (call.Dispatch 16) st)
 when_open s st (creates made) = by_clock st (program.new_clock s made)
-when_open s st (moves f) = by_clock st (program.moved s (f s.clock))
-when_open s st (asks f) = by_clock st (program.told s (f s.clock))
+when_open s st (moves f) = by_clock st (program.moved s (option_map f s.clock))
+when_open s st (asks f) = by_clock st (program.told s (option_map f s.clock))
 
 -- an `open` that the table accepts begins the log
 abbrev pub beginning : Session → State → ℕ → Logged
 beginning s st p =
     let o = step (opening p) st in
-    record { answer = o.answer; session = record { opened = eqb (open_refusal (words_needed 16 64 64) p 16 64 64) 0; timed = s.timed; clock = s.clock }; state = o.state }
+    record { answer = o.answer; session = record { opened = eqb (open_refusal (words_needed 16 64 64) p 16 64 64) 0; clock = s.clock }; state = o.state }
 
 -- before an `open` has succeeded no other line is read
 unfoldable pub when_closed : Session → State → Asked → Logged

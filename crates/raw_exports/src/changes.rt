@@ -20,7 +20,7 @@ pub extern "C" fn raw_create_thread(words: &mut [u64], priority: u64, out: &mut 
         return 27;
     }
     let answer = threading::create_thread(words, priority);
-    put_answer(out, answer)
+    put_answer(out, answer.into())
 }
 
 #[unsafe(no_mangle)]
@@ -31,7 +31,7 @@ pub extern "C" fn raw_priority(words: &mut [u64], id: u64, priority: u64, out: &
         return 27;
     }
     let answer = threading::priority(words, id, priority);
-    put_answer(out, answer)
+    put_answer(out, answer.into())
 }
 
 #[unsafe(no_mangle)]
@@ -42,7 +42,7 @@ pub extern "C" fn raw_yield_current(words: &mut [u64], out: &mut [u64]) -> u64
         return 27;
     }
     let answer = threading::yield_current(words);
-    put_answer(out, answer)
+    put_answer(out, answer.into())
 }
 
 #[unsafe(no_mangle)]
@@ -53,7 +53,7 @@ pub extern "C" fn raw_terminate(words: &mut [u64], status: u32, out: &mut [u64])
         return 27;
     }
     let answer = threading::terminate(words, status);
-    put_answer(out, answer)
+    put_answer(out, answer.into())
 }
 
 #[unsafe(no_mangle)]
@@ -64,7 +64,7 @@ pub extern "C" fn raw_initialize_mutex(words: &mut [u64], key: u64, out: &mut [u
         return 27;
     }
     let answer = mutexes::initialize_mutex(words, key);
-    put_answer(out, answer)
+    put_answer(out, answer.into())
 }
 
 #[unsafe(no_mangle)]
@@ -81,7 +81,7 @@ pub extern "C" fn raw_adopt_mutex(
         return 27;
     }
     let answer = mutexes::adopt_mutex(words, key, owned != 0, owner);
-    put_answer(out, answer)
+    put_answer(out, answer.into())
 }
 
 #[unsafe(no_mangle)]
@@ -92,7 +92,7 @@ pub extern "C" fn raw_release_mutex(words: &mut [u64], key: u64, out: &mut [u64]
         return 27;
     }
     let answer = mutexes::release_mutex(words, key);
-    put_answer(out, answer)
+    put_answer(out, answer.into())
 }
 
 #[unsafe(no_mangle)]
@@ -109,7 +109,7 @@ pub extern "C" fn raw_initialize_event(
         return 27;
     }
     let answer = events::initialize_event(words, key, manual != 0, signaled != 0);
-    put_answer(out, answer)
+    put_answer(out, answer.into())
 }
 
 #[unsafe(no_mangle)]
@@ -120,7 +120,7 @@ pub extern "C" fn raw_set_event(words: &mut [u64], key: u64, out: &mut [u64]) ->
         return 27;
     }
     let answer = events::set_event(words, key);
-    put_answer(out, answer)
+    put_answer(out, answer.into())
 }
 
 #[unsafe(no_mangle)]
@@ -131,7 +131,7 @@ pub extern "C" fn raw_reset_event(words: &mut [u64], key: u64, out: &mut [u64]) 
         return 27;
     }
     let answer = events::reset_event(words, key);
-    put_answer(out, answer)
+    put_answer(out, answer.into())
 }
 
 #[unsafe(no_mangle)]
@@ -148,7 +148,7 @@ pub extern "C" fn raw_retire_event_backing(
         return 27;
     }
     let answer = event_release::retire_event_backing(words, base, size, layout);
-    put_answer(out, answer)
+    put_answer(out, answer.into())
 }
 
 #[unsafe(no_mangle)]
@@ -164,7 +164,7 @@ pub extern "C" fn raw_delay_until(
         return 27;
     }
     let answer = waiting::delay_until(words, deadline, irql);
-    put_answer(out, answer)
+    put_answer(out, answer.into())
 }
 
 #[unsafe(no_mangle)]
@@ -175,7 +175,7 @@ pub extern "C" fn raw_advance_to(words: &mut [u64], time: u64, out: &mut [u64]) 
         return 27;
     }
     let answer = advancing::advance_to(words, time);
-    put_answer(out, answer)
+    put_answer(out, answer.into())
 }
 
 #[unsafe(no_mangle)]
@@ -194,7 +194,7 @@ pub extern "C" fn raw_wait(
         return 27;
     }
     let answer = waiting::wait(words, list, all != 0, timed != 0, deadline, irql);
-    put_answer(out, answer)
+    put_answer(out, answer.into())
 }
 
 #[unsafe(no_mangle)]
@@ -205,5 +205,5 @@ pub extern "C" fn raw_dispatch(words: &mut [u64], waiting: &mut [u64], out: &mut
         return 27;
     }
     let answer = dispatcher::dispatch::dispatch(words, waiting);
-    put_answer(out, answer)
+    put_answer(out, answer.into())
 }

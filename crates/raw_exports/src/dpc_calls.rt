@@ -20,7 +20,7 @@ pub extern "C" fn raw_configure_dpc_dispatch(
         return 27;
     }
     let answer = dpc_work::configure_dpc_dispatch(words, first, second);
-    put_answer(out, answer)
+    put_answer(out, answer.into())
 }
 
 #[unsafe(no_mangle)]
@@ -37,7 +37,7 @@ pub extern "C" fn raw_insert_queue_dpc(
         return 27;
     }
     let answer = dpc_work::insert_queue_dpc(words, address, first, second);
-    put_answer(out, answer)
+    put_answer(out, answer.into())
 }
 
 #[unsafe(no_mangle)]
@@ -48,7 +48,7 @@ pub extern "C" fn raw_remove_queue_dpc(words: &mut [u64], address: u64, out: &mu
         return 27;
     }
     let answer = dpc_work::remove_queue_dpc(words, address);
-    put_answer(out, answer)
+    put_answer(out, answer.into())
 }
 
 #[unsafe(no_mangle)]
@@ -75,7 +75,7 @@ pub extern "C" fn raw_returned_dpc(
         return 27;
     }
     let answer = dpc_work::returned_dpc(words, address, sequence);
-    put_answer(out, answer)
+    put_answer(out, answer.into())
 }
 
 #[unsafe(no_mangle)]
@@ -91,5 +91,5 @@ pub extern "C" fn raw_restored_dpc(
         return 27;
     }
     let answer = dpc_work::restored_dpc(words, address, sequence);
-    put_answer(out, answer)
+    put_answer(out, answer.into())
 }

@@ -28,7 +28,7 @@ pub extern "C" fn raw_initialize_timer(
     let a = images::architecture_of(architecture);
     let b = images::backing_of(backing, base, size, mapped);
     let answer = timers::initialize::initialize_timer(words, address, a, b, manual != 0);
-    put_answer(out, answer)
+    put_answer(out, answer.into())
 }
 
 #[unsafe(no_mangle)]
@@ -52,7 +52,7 @@ pub extern "C" fn raw_initialize_dpc(
     let a = images::architecture_of(architecture);
     let b = images::backing_of(backing, base, size, mapped);
     let answer = timers::initialize::initialize_dpc(words, address, a, b, routine, context);
-    put_answer(out, answer)
+    put_answer(out, answer.into())
 }
 
 #[unsafe(no_mangle)]
@@ -71,7 +71,7 @@ pub extern "C" fn raw_set_timer(
         return 27;
     }
     let answer = arming::set_timer(words, address, due, absolute != 0, period, dpc);
-    put_answer(out, answer)
+    put_answer(out, answer.into())
 }
 
 #[unsafe(no_mangle)]
@@ -82,7 +82,7 @@ pub extern "C" fn raw_cancel_timer(words: &mut [u64], address: u64, out: &mut [u
         return 27;
     }
     let answer = arming::cancel_timer(words, address);
-    put_answer(out, answer)
+    put_answer(out, answer.into())
 }
 
 #[unsafe(no_mangle)]
@@ -98,5 +98,5 @@ pub extern "C" fn raw_retire_timer_backing(
         return 27;
     }
     let answer = timers::release::retire_timer_backing(words, address, size);
-    put_answer(out, answer)
+    put_answer(out, answer.into())
 }

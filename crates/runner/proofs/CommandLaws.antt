@@ -1,7 +1,10 @@
 -- What a command that a match leaves over asks for.
 use Rattle.std.proofs.Common.{◌≡◌, ℕ, Bool, true, false, cond, ltb, List, [], ◌∷◌, length}
 use mathlib.Core.Path.{refl, ap, ◌∙◌}
-use Rattle.std.specs.Prelude.{Some, None}
+use Rattle.std.specs.Prelude.{Option, Some, None, Result, Ok, Err, is_ok, MatchOption, IsSomeAnd}
+use Rattle.std.specs.Option.{option_map}
+use Rattle.answers.specs.declared.error.SchedulerError.{SchedulerError}
+use Rattle.answers.specs.Errors.{done}
 use Rattle.script_lex.proofs.Cases.{either}
 use lib.IntN.{ℤ}
 use Rattle.answers.specs.declared.Answer.{Answer}
@@ -146,23 +149,18 @@ pub unread-line : (w out list : List ℕ) (s : Session) → performed_as (unchan
 unfolding performed asked gone_on begun on_words
 unread-line w out list s = either s.opened (λ e. simp e) (λ e. simp e)
 
--- it is no success of an `open`
-pub not_done : (a : Answer) → (a ≡ answer.Done → ⊥) → false ≡ accepts a
+-- an `open` has succeeded where it is not refused
+pub opens : (r : Result (Unit {0}) SchedulerError) → accepts (done r) ≡ is_ok r
 unfolding accepts
-not_done (answer.Refused n) q = refl
-not_done answer.Done q = absurd (q refl)
-not_done answer.None q = refl
-not_done (answer.Thread n) q = refl
-not_done (answer.Flag b) q = refl
-not_done (answer.Count n) q = refl
-not_done (answer.Satisfied n) q = refl
-not_done answer.Timeout q = refl
-not_done answer.Blocked q = refl
-not_done (answer.Run n) q = refl
-not_done (answer.AdvanceTo n) q = refl
-not_done (answer.Deadlocked n) q = refl
-not_done answer.Finished q = refl
-not_done (answer.Event key manual signaled) q = refl
+opens (Ok x) = refl
+opens (Err e) = refl
+
+-- what a call on the clock answers, where there is a clock
+pub mapped : {A B : Type 0} (f : A → B) {P : A → B → Type 0} → ((x : A) (y : B) → P x y → y ≡ f x)
+    → (o : Option A) (r : Option B) → MatchOption o (r ≡ None) (λ x. IsSomeAnd r (P x)) → r ≡ option_map f o
+mapped f gives None r t = t
+mapped f gives (Some x) (Some y) t = ap Some (gives x y t)
+mapped f gives (Some x) None t = absurd t
 
 -- ---- how a step is put together
 

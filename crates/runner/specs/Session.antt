@@ -1,5 +1,6 @@
 -- What the command of a line does to a bench: the scheduler in its words, and a clock.
-use Rattle.std.specs.Prelude.{ℕ, Bool, true, false, cond, List, length, pos, Option, Result, Ok, Err, ⊤}
+use Rattle.std.specs.Prelude.{ℕ, Bool, true, false, cond, List, length, Option, Some, None, Result, Ok, Err, ⊤}
+use Rattle.std.specs.Option.{option_map}
 use Rattle.answers.specs.declared.Answer.{Answer}
 use Rattle.answers.specs.declared.Answer.TheVariants as answer
 use Rattle.answers.specs.Outcome.{Outcome}
@@ -17,20 +18,7 @@ use Rattle.runner.specs.declared.session.Step.{Step}
 
 -- before the first line: no `open` and no `clock new` has succeeded
 unfoldable pub begin : Session
-begin =
-    record {
-      opened = false;
-      timed = false;
-      clock = record {
-        utc_filetime = 0;
-        uptime_ms = 0;
-        submillisecond_100ns = 0;
-        utc_offset_minutes = pos 0;
-        base_mhz = 1;
-        pending_cycles = 0;
-        until_flush = 1000;
-      };
-    }
+begin = record { opened = false; clock = None }
 
 -- ---- a clock
 
@@ -47,17 +35,17 @@ reading_answer (Err why) = answer.Refused (error_number why)
 
 -- a clock accepted takes the place of the one before
 unfoldable pub new_clock : Session → Result GuestClock ClockError → Step
-new_clock s (Ok c) = record { answer = answer.Done; session = record { opened = s.opened; timed = true; clock = c } }
+new_clock s (Ok c) = record { answer = answer.Done; session = record { opened = s.opened; clock = Some c } }
 new_clock s (Err why) = unchanged s (answer.Refused (error_number why))
 
 -- 28 for a clock call before a `clock new` has succeeded
-unfoldable pub moved : Session → clock.Outcome → Step
-moved s o =
-    cond s.timed (record { answer = done_answer o.answer; session = record { opened = s.opened; timed = s.timed; clock = o.clock } })
-    (unchanged s (answer.Refused 28))
+unfoldable pub moved : Session → Option clock.Outcome → Step
+moved s None = unchanged s (answer.Refused 28)
+moved s (Some o) = record { answer = done_answer o.answer; session = record { opened = s.opened; clock = Some o.clock } }
 
-unfoldable pub told : Session → Result ℕ ClockError → Step
-told s r = unchanged s (cond s.timed (reading_answer r) (answer.Refused 28))
+unfoldable pub told : Session → Option (Result ℕ ClockError) → Step
+told s None = unchanged s (answer.Refused 28)
+told s (Some r) = unchanged s (reading_answer r)
 
 -- ---- a bench
 
@@ -82,8 +70,8 @@ gone_on w out s (works address) = answers_with s out (on_words w (works address)
 gone_on w out s dispatching =
     let o : Dispatched = called w (call.Dispatch (length out)) out in performed_as (unchanged s o.answer) o.words o.output
 gone_on w out s (creates made) = performed_as (new_clock s made) w out
-gone_on w out s (moves f) = performed_as (moved s (f s.clock)) w out
-gone_on w out s (asks f) = performed_as (told s (f s.clock)) w out
+gone_on w out s (moves f) = performed_as (moved s (option_map f s.clock)) w out
+gone_on w out s (asks f) = performed_as (told s (option_map f s.clock)) w out
 
 -- whether an `open` has succeeded, by its answer
 unfoldable pub accepts : Answer → Bool
@@ -107,7 +95,7 @@ abbrev pub opens_with : List ℕ → ℕ → Outcome
 opens_with w p = called w (call.Open (length w) p 16 64 64)
 
 abbrev pub opened_by : Session → Answer → Step
-opened_by s a = record { answer = a; session = record { opened = accepts a; timed = s.timed; clock = s.clock } }
+opened_by s a = record { answer = a; session = record { opened = accepts a; clock = s.clock } }
 
 -- 28 for a line before an `open` has succeeded, but for an `open`
 unfoldable pub begun : List ℕ → List ℕ → Session → Asked → Performed

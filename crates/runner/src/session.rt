@@ -15,12 +15,11 @@ pub const OBJECTS: u64 = 64;
 
 pub const DPCS: u64 = 64;
 
-// Whether an `open` has been accepted, whether a `clock new` has, and the clock.
+// Whether an `open` has been accepted, and the clock, once a `clock new` has been.
 #[derive(Clone, Copy)]
 pub struct Session {
     pub opened: bool,
-    pub timed: bool,
-    pub clock: GuestClock,
+    pub clock: Option<GuestClock>,
 }
 
 #[derive(Clone, Copy)]
@@ -29,21 +28,13 @@ pub struct Step {
     pub session: Session,
 }
 
+#[tactic(auto, unfolding(crate::specs::Session::begin))]
 pub fn start() -> Session
     ensures { result ≡ spec.begin }
 {
     Session {
         opened: false,
-        timed: false,
-        clock: GuestClock {
-            utc_filetime: 0,
-            uptime_ms: 0,
-            submillisecond_100ns: 0,
-            utc_offset_minutes: 0,
-            base_mhz: 1,
-            pending_cycles: 0,
-            until_flush: 1000,
-        },
+        clock: None,
     }
 }
 
@@ -58,6 +49,7 @@ fn unchanged(s: Session, a: Answer) -> Step
 
 // ---- a clock
 
+#[tactic(auto, unfolding(crate::specs::Session::done_answer))]
 fn done_answer(done: Result<(), ClockError>) -> Answer
     ensures { result ≡ spec.done_answer done }
 {
@@ -67,6 +59,7 @@ fn done_answer(done: Result<(), ClockError>) -> Answer
     }
 }
 
+#[tactic(auto, unfolding(crate::specs::Session::reading_answer))]
 fn reading_answer(r: Result<u64, ClockError>) -> Answer
     ensures { result ≡ spec.reading_answer r }
 {
@@ -77,46 +70,48 @@ fn reading_answer(r: Result<u64, ClockError>) -> Answer
 }
 
 // A clock accepted takes the place of the one before.
+#[tactic(auto, unfolding(crate::specs::Session::new_clock))]
 fn new_clock(s: Session, made: Result<GuestClock, ClockError>) -> Step
     ensures { result ≡ spec.new_clock s made }
 {
     match made {
-        Ok(c) => Step {
+        Ok(clock) => Step {
             answer: Answer::Done,
             session: Session {
-                opened: s.opened,
-                timed: true,
-                clock: c,
+                clock: Some(clock),
+                ..s
             },
         },
         Err(why) => unchanged(s, Answer::Refused(u64::from(why))),
     }
 }
 
-// The clock after a call; before a `clock new` has been accepted there is none.
-fn moved(s: Session, o: Outcome) -> Step
-    ensures { result ≡ spec.moved s o }
+// A call that may change the clock; there is none before a `clock new` has been accepted.
+#[tactic(auto, unfolding(crate::specs::Session::moved))]
+fn moved(s: Session, call: Option<Outcome>) -> Step
+    ensures { result ≡ spec.moved s call }
 {
-    if !s.timed {
-        return unchanged(s, Answer::Refused(28));
-    }
-    Step {
-        answer: done_answer(o.answer),
-        session: Session {
-            opened: s.opened,
-            timed: s.timed,
-            clock: o.clock,
+    match call {
+        Some(outcome) => Step {
+            answer: done_answer(outcome.answer),
+            session: Session {
+                clock: Some(outcome.clock),
+                ..s
+            },
         },
+        None => unchanged(s, Answer::Refused(28)),
     }
 }
 
-fn told(s: Session, r: Result<u64, ClockError>) -> Step
-    ensures { result ≡ spec.told s r }
+// A call that reads it.
+#[tactic(auto, unfolding(crate::specs::Session::told))]
+fn told(s: Session, reading: Option<Result<u64, ClockError>>) -> Step
+    ensures { result ≡ spec.told s reading }
 {
-    if !s.timed {
-        return unchanged(s, Answer::Refused(28));
+    match reading {
+        Some(r) => unchanged(s, reading_answer(r)),
+        None => unchanged(s, Answer::Refused(28)),
     }
-    unchanged(s, reading_answer(r))
 }
 
 // ---- commands
@@ -125,35 +120,31 @@ fn told(s: Session, r: Result<u64, ClockError>) -> Step
 fn go_on(w: &mut [u64], waiting: &mut [u64], list: &[u64], s: Session, c: Command) -> Step
     ensures { spec.performed_as result w.new waiting.new ≡ spec.gone_on w.old waiting.old s (asked list.now (Some c)) }
 {
-    let now = s.clock;
     match c {
-        Command::Dispatch => unchanged(s, changes::dispatch(w, waiting)),
+        Command::Dispatch => unchanged(s, changes::dispatch(w, waiting).into()),
         Command::ClockNew {
             utc,
             uptime,
             offset,
             mhz,
         } => new_clock(s, by_value::new(utc, uptime, offset, mhz)),
-        Command::ClockInstruction => moved(s, by_value::instruction(now)),
-        Command::ClockAdvanceMicroseconds(n) => moved(s, by_value::advance_microseconds(now, n)),
-        Command::ClockAdvance100ns(n) => moved(s, by_value::advance_100ns(now, n)),
-        Command::ClockAdvanceMilliseconds(n) => moved(s, by_value::advance_milliseconds(now, n)),
-        Command::ClockFlushCycles => moved(s, by_value::flush_cycles(now)),
-        Command::ClockObserve => moved(s, by_value::observe(now)),
-        Command::ClockQpc => told(s, by_value::qpc(now)),
-        Command::ClockTick64 => told(s, by_value::tick64(now)),
-        Command::ClockTsc => told(s, by_value::tsc(now)),
+        Command::ClockInstruction => moved(s, s.clock.map(by_value::instruction)),
+        Command::ClockAdvanceMicroseconds(n) => moved(
+            s,
+            s.clock.map(|c| by_value::advance_microseconds(c, n)),
+        ),
+        Command::ClockAdvance100ns(n) => moved(s, s.clock.map(|c| by_value::advance_100ns(c, n))),
+        Command::ClockAdvanceMilliseconds(n) => moved(
+            s,
+            s.clock.map(|c| by_value::advance_milliseconds(c, n)),
+        ),
+        Command::ClockFlushCycles => moved(s, s.clock.map(by_value::flush_cycles)),
+        Command::ClockObserve => moved(s, s.clock.map(by_value::observe)),
+        Command::ClockQpc => told(s, s.clock.map(by_value::qpc)),
+        Command::ClockTick64 => told(s, s.clock.map(by_value::tick64)),
+        Command::ClockTsc => told(s, s.clock.map(by_value::tsc)),
         _ => unchanged(s, commands::on_words(w, list, c)),
     }
-}
-
-fn is_done(a: Answer) -> bool
-    ensures { result ≡ spec.accepts a }
-{
-    if let Answer::Done = a {
-        return true;
-    }
-    false
 }
 
 // Limits 16, 64, 64.
@@ -161,14 +152,12 @@ fn begin(w: &mut [u64], s: Session, priority: u64) -> Step
     ensures value { result ≡ spec.opened_by s (spec.opens_with w.old priority).answer }
     ensures w_after { w.new ≡ (spec.opens_with w.old priority).words }
 {
-    let answer = changes::open(w, priority, THREADS, OBJECTS, DPCS);
-    let clock = s.clock;
+    let opened = changes::open(w, priority, THREADS, OBJECTS, DPCS);
     Step {
-        answer,
+        answer: opened.into(),
         session: Session {
-            opened: is_done(answer),
-            timed: s.timed,
-            clock,
+            opened: opened.is_ok(),
+            ..s
         },
     }
 }

@@ -4,153 +4,147 @@ ghost use Rattle.model.specs.Call as call;
 ghost use Rattle.calls.specs.Called.{called, optional};
 ghost use Rattle.answers.specs.Outcome.{outcome};
 ghost use Rattle.dispatcher.specs.Dispatch as dispatch;
+ghost use Rattle.answers.specs.declared.Answer.TheVariants as answer;
+ghost use Rattle.answers.specs.Errors.{done, thread, answer_of};
+ghost use Rattle.dispatcher.specs.Dispatched as dispatched;
+ghost use Rattle.waiting.specs.Wait as waiting;
 
-use answers::Answer;
+use answers::ThreadId;
+use answers::error::SchedulerError;
+use dispatcher::outcome::Dispatch;
+use waiting::WaitOutcome;
 
 // A scheduler with thread 1 running at `priority`, and the rest empty or 0; on any words that are enough for the limits.
-pub fn open(w: &mut [u64], priority: u64, t: u64, o: u64, d: u64) -> Answer
-    ensures { outcome result w.new ≡ called w.old (call.Open (length w.old) priority t o d) }
+pub fn open(w: &mut [u64], priority: u64, t: u64, o: u64, d: u64) -> Result<(), SchedulerError>
+    ensures { outcome (done result) w.new ≡ called w.old (call.Open (length w.old) priority t o d) }
 {
     opening::open(w, priority, t, o, d)
 }
 
-pub fn create_thread(w: &mut [u64], priority: u64) -> Answer
-    ensures { outcome result w.new ≡ called w.old (call.CreateThread priority) }
+pub fn create_thread(w: &mut [u64], priority: u64) -> Result<ThreadId, SchedulerError>
+    ensures { outcome (answer_of thread result) w.new ≡ called w.old (call.CreateThread priority) }
 {
-    if !form::in_form(w) {
-        return Answer::Refused(27);
-    }
+    form::check(w)?;
     threading::create_thread(w, priority)
 }
 
-pub fn priority(w: &mut [u64], id: u64, priority: u64) -> Answer
-    ensures { outcome result w.new ≡ called w.old (call.Priority id priority) }
+pub fn priority(w: &mut [u64], id: u64, priority: u64) -> Result<(), SchedulerError>
+    ensures { outcome (done result) w.new ≡ called w.old (call.Priority id priority) }
 {
-    if !form::in_form(w) {
-        return Answer::Refused(27);
-    }
+    form::check(w)?;
     threading::priority(w, id, priority)
 }
 
-pub fn yield_current(w: &mut [u64]) -> Answer
-    ensures { outcome result w.new ≡ called w.old call.YieldCurrent }
+pub fn yield_current(w: &mut [u64]) -> Result<(), SchedulerError>
+    ensures { outcome (done result) w.new ≡ called w.old call.YieldCurrent }
 {
-    if !form::in_form(w) {
-        return Answer::Refused(27);
-    }
+    form::check(w)?;
     threading::yield_current(w)
 }
 
-pub fn terminate(w: &mut [u64], status: u32) -> Answer
-    ensures { outcome result w.new ≡ called w.old (call.Terminate status) }
+pub fn terminate(w: &mut [u64], status: u32) -> Result<(), SchedulerError>
+    ensures { outcome (done result) w.new ≡ called w.old (call.Terminate status) }
 {
-    if !form::in_form(w) {
-        return Answer::Refused(27);
-    }
+    form::check(w)?;
     threading::terminate(w, status)
 }
 
-pub fn initialize_mutex(w: &mut [u64], key: u64) -> Answer
-    ensures { outcome result w.new ≡ called w.old (call.InitializeMutex key) }
+pub fn initialize_mutex(w: &mut [u64], key: u64) -> Result<(), SchedulerError>
+    ensures { outcome (done result) w.new ≡ called w.old (call.InitializeMutex key) }
 {
-    if !form::in_form(w) {
-        return Answer::Refused(27);
-    }
+    form::check(w)?;
     mutexes::initialize_mutex(w, key)
 }
 
-pub fn adopt_mutex(w: &mut [u64], key: u64, owned: bool, owner: u64) -> Answer
-    ensures { outcome result w.new ≡ called w.old (call.AdoptMutex key (optional owned owner)) }
+pub fn adopt_mutex(w: &mut [u64], key: u64, owned: bool, owner: u64) -> Result<(), SchedulerError>
+    ensures { outcome (done result) w.new ≡ called w.old (call.AdoptMutex key (optional owned owner)) }
 {
-    if !form::in_form(w) {
-        return Answer::Refused(27);
-    }
+    form::check(w)?;
     if owned {
         return mutexes::adopt_mutex(w, key, true, owner);
     }
     mutexes::adopt_mutex(w, key, false, 0)
 }
 
-pub fn release_mutex(w: &mut [u64], key: u64) -> Answer
-    ensures { outcome result w.new ≡ called w.old (call.ReleaseMutex key) }
+pub fn release_mutex(w: &mut [u64], key: u64) -> Result<(), SchedulerError>
+    ensures { outcome (done result) w.new ≡ called w.old (call.ReleaseMutex key) }
 {
-    if !form::in_form(w) {
-        return Answer::Refused(27);
-    }
+    form::check(w)?;
     mutexes::release_mutex(w, key)
 }
 
-pub fn initialize_event(w: &mut [u64], key: u64, manual: bool, signaled: bool) -> Answer
-    ensures { outcome result w.new ≡ called w.old (call.InitializeEvent key manual signaled) }
+pub fn initialize_event(
+    w: &mut [u64],
+    key: u64,
+    manual: bool,
+    signaled: bool,
+) -> Result<(), SchedulerError>
+    ensures { outcome (done result) w.new ≡ called w.old (call.InitializeEvent key manual signaled) }
 {
-    if !form::in_form(w) {
-        return Answer::Refused(27);
-    }
+    form::check(w)?;
     events::initialize_event(w, key, manual, signaled)
 }
 
-pub fn set_event(w: &mut [u64], key: u64) -> Answer
-    ensures { outcome result w.new ≡ called w.old (call.SetEvent key) }
+pub fn set_event(w: &mut [u64], key: u64) -> Result<bool, SchedulerError>
+    ensures { outcome (answer_of answer.Flag result) w.new ≡ called w.old (call.SetEvent key) }
 {
-    if !form::in_form(w) {
-        return Answer::Refused(27);
-    }
+    form::check(w)?;
     events::set_event(w, key)
 }
 
-pub fn reset_event(w: &mut [u64], key: u64) -> Answer
-    ensures { outcome result w.new ≡ called w.old (call.ResetEvent key) }
+pub fn reset_event(w: &mut [u64], key: u64) -> Result<bool, SchedulerError>
+    ensures { outcome (answer_of answer.Flag result) w.new ≡ called w.old (call.ResetEvent key) }
 {
-    if !form::in_form(w) {
-        return Answer::Refused(27);
-    }
+    form::check(w)?;
     events::reset_event(w, key)
 }
 
-pub fn retire_event_backing(w: &mut [u64], base: u64, size: u64, layout: u64) -> Answer
-    ensures { outcome result w.new ≡ called w.old (call.RetireEventBacking base size layout) }
+pub fn retire_event_backing(
+    w: &mut [u64],
+    base: u64,
+    size: u64,
+    layout: u64,
+) -> Result<(), SchedulerError>
+    ensures { outcome (done result) w.new ≡ called w.old (call.RetireEventBacking base size layout) }
 {
-    if !form::in_form(w) {
-        return Answer::Refused(27);
-    }
+    form::check(w)?;
     event_release::retire_event_backing(w, base, size, layout)
 }
 
-pub fn delay_until(w: &mut [u64], deadline: u64, irql: u8) -> Answer
-    ensures { outcome result w.new ≡ called w.old (call.DelayUntil deadline irql) }
+pub fn delay_until(w: &mut [u64], deadline: u64, irql: u8) -> Result<WaitOutcome, SchedulerError>
+    ensures { outcome (answer_of waiting.told result) w.new ≡ called w.old (call.DelayUntil deadline irql) }
 {
-    if !form::in_form(w) {
-        return Answer::Refused(27);
-    }
+    form::check(w)?;
     waiting::delay_until(w, deadline, irql)
 }
 
-pub fn advance_to(w: &mut [u64], time: u64) -> Answer
-    ensures { outcome result w.new ≡ called w.old (call.AdvanceTo time) }
+pub fn advance_to(w: &mut [u64], time: u64) -> Result<(), SchedulerError>
+    ensures { outcome (done result) w.new ≡ called w.old (call.AdvanceTo time) }
 {
-    if !form::in_form(w) {
-        return Answer::Refused(27);
-    }
+    form::check(w)?;
     advancing::advance_to(w, time)
 }
 
-pub fn wait(w: &mut [u64], list: &[u64], all: bool, timed: bool, deadline: u64, irql: u8) -> Answer
-    ensures { outcome result w.new ≡ called w.old (call.Wait list.now all (optional timed deadline) irql) }
+pub fn wait(
+    w: &mut [u64],
+    list: &[u64],
+    all: bool,
+    timed: bool,
+    deadline: u64,
+    irql: u8,
+) -> Result<WaitOutcome, SchedulerError>
+    ensures { outcome (answer_of waiting.told result) w.new ≡ called w.old (call.Wait list.now all (optional timed deadline) irql) }
 {
-    if !form::in_form(w) {
-        return Answer::Refused(27);
-    }
+    form::check(w)?;
     if timed {
         return waiting::wait(w, list, all, true, deadline, irql);
     }
     waiting::wait(w, list, all, false, 0, irql)
 }
 
-pub fn dispatch(w: &mut [u64], out: &mut [u64]) -> Answer
-    ensures { dispatch.told result w.new out.new ≡ called w.old (call.Dispatch (length out.old)) out.old }
+pub fn dispatch(w: &mut [u64], out: &mut [u64]) -> Result<Dispatch, SchedulerError>
+    ensures { dispatch.told (answer_of dispatched.answered result) w.new out.new ≡ called w.old (call.Dispatch (length out.old)) out.old }
 {
-    if !form::in_form(w) {
-        return Answer::Refused(27);
-    }
+    form::check(w)?;
     dispatcher::dispatch::dispatch(w, out)
 }

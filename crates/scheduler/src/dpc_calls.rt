@@ -4,137 +4,120 @@ ghost use Rattle.model.specs.Call as call;
 ghost use Rattle.calls.specs.Called.{called};
 ghost use Rattle.answers.specs.Outcome.{outcome};
 ghost use Rattle.dpc_work.specs.Work as calls;
+ghost use Rattle.answers.specs.declared.Answer.TheVariants as answer;
+ghost use Rattle.answers.specs.Errors.{done, answer_of, told_by};
+ghost use Rattle.dpc_reads.specs.DpcAnswer as dpc;
+ghost use Rattle.dpc_reads.specs.PolicyAnswer as policy;
+ghost use Rattle.dpc_reads.specs.CountersAnswer as counters;
+ghost use Rattle.dpc_reads.specs.Reads as reads;
 
-use answers::Answer;
-use dpc_reads::{CountersAnswer, DpcAnswer, PolicyAnswer};
-use dpc_work::WorkAnswer;
+use answers::error::SchedulerError;
+use dpc_reads::{DpcCounters, DpcPolicy};
+use images::{Dpc, DpcWork};
 
-pub fn configure_dpc_dispatch(w: &mut [u64], first: u64, second: u64) -> Answer
-    ensures { outcome result w.new ≡ called w.old (call.ConfigureDpcDispatch first second) }
+pub fn configure_dpc_dispatch(w: &mut [u64], first: u64, second: u64) -> Result<(), SchedulerError>
+    ensures { outcome (done result) w.new ≡ called w.old (call.ConfigureDpcDispatch first second) }
 {
-    if !form::in_form(w) {
-        return Answer::Refused(27);
-    }
+    form::check(w)?;
     dpc_work::configure_dpc_dispatch(w, first, second)
 }
 
-pub fn insert_queue_dpc(w: &mut [u64], address: u64, first: u64, second: u64) -> Answer
-    ensures { outcome result w.new ≡ called w.old (call.InsertQueueDpc address first second) }
+pub fn insert_queue_dpc(
+    w: &mut [u64],
+    address: u64,
+    first: u64,
+    second: u64,
+) -> Result<bool, SchedulerError>
+    ensures { outcome (answer_of answer.Flag result) w.new ≡ called w.old (call.InsertQueueDpc address first second) }
 {
-    if !form::in_form(w) {
-        return Answer::Refused(27);
-    }
+    form::check(w)?;
     dpc_work::insert_queue_dpc(w, address, first, second)
 }
 
-pub fn remove_queue_dpc(w: &mut [u64], address: u64) -> Answer
-    ensures { outcome result w.new ≡ called w.old (call.RemoveQueueDpc address) }
+pub fn remove_queue_dpc(w: &mut [u64], address: u64) -> Result<bool, SchedulerError>
+    ensures { outcome (answer_of answer.Flag result) w.new ≡ called w.old (call.RemoveQueueDpc address) }
 {
-    if !form::in_form(w) {
-        return Answer::Refused(27);
-    }
+    form::check(w)?;
     dpc_work::remove_queue_dpc(w, address)
 }
 
-pub fn start_dpc(w: &mut [u64], address: u64) -> WorkAnswer
-    ensures { calls.start_outcome result w.new ≡ called w.old (call.StartDpc address) }
+pub fn start_dpc(w: &mut [u64], address: u64) -> Result<DpcWork, SchedulerError>
+    ensures { calls.start_outcome (calls.told result) w.new ≡ called w.old (call.StartDpc address) }
 {
-    if !form::in_form(w) {
-        return WorkAnswer::Refused(27);
-    }
+    form::check(w)?;
     dpc_work::start_dpc(w, address)
 }
 
-pub fn returned_dpc(w: &mut [u64], address: u64, sequence: u64) -> Answer
-    ensures { outcome result w.new ≡ called w.old (call.ReturnedDpc address sequence) }
+pub fn returned_dpc(w: &mut [u64], address: u64, sequence: u64) -> Result<(), SchedulerError>
+    ensures { outcome (done result) w.new ≡ called w.old (call.ReturnedDpc address sequence) }
 {
-    if !form::in_form(w) {
-        return Answer::Refused(27);
-    }
+    form::check(w)?;
     dpc_work::returned_dpc(w, address, sequence)
 }
 
-pub fn restored_dpc(w: &mut [u64], address: u64, sequence: u64) -> Answer
-    ensures { outcome result w.new ≡ called w.old (call.RestoredDpc address sequence) }
+pub fn restored_dpc(w: &mut [u64], address: u64, sequence: u64) -> Result<(), SchedulerError>
+    ensures { outcome (done result) w.new ≡ called w.old (call.RestoredDpc address sequence) }
 {
-    if !form::in_form(w) {
-        return Answer::Refused(27);
-    }
+    form::check(w)?;
     dpc_work::restored_dpc(w, address, sequence)
 }
 
-pub fn dpc_initializations(w: &[u64]) -> Answer
-    ensures { result ≡ called w.now (call.Reads call.DpcInitializations) }
+pub fn dpc_initializations(w: &[u64]) -> Result<u64, SchedulerError>
+    ensures { answer_of answer.Count result ≡ called w.now (call.Reads call.DpcInitializations) }
 {
-    if !form::in_form(w) {
-        return Answer::Refused(27);
-    }
-    dpc_reads::dpc_initializations(w)
+    form::check(w)?;
+    Ok(dpc_reads::dpc_initializations(w))
 }
 
 // The address of the DPC at a position in the queue, from 0 on.
-pub fn queued_dpcs(w: &[u64], position: u64) -> Answer
-    ensures { result ≡ called w.now (call.Reads (call.QueuedDpcs position)) }
+pub fn queued_dpcs(w: &[u64], position: u64) -> Result<Option<u64>, SchedulerError>
+    ensures { answer_of reads.count_or_none result ≡ called w.now (call.Reads (call.QueuedDpcs position)) }
 {
-    if !form::in_form(w) {
-        return Answer::Refused(27);
-    }
-    dpc_reads::queued_dpcs(w, position)
+    form::check(w)?;
+    Ok(dpc_reads::queued_dpcs(w, position))
 }
 
-pub fn dpc(w: &[u64], address: u64) -> DpcAnswer
-    ensures { result ≡ called w.now (call.Reads (call.DpcAt address)) }
+pub fn dpc(w: &[u64], address: u64) -> Result<Dpc, SchedulerError>
+    ensures { reads.known result ≡ called w.now (call.Reads (call.DpcAt address)) }
 {
-    if !form::in_form(w) {
-        return DpcAnswer::Refused(27);
-    }
+    form::check(w)?;
     dpc_reads::dpc(w, address)
 }
 
 // The DPC at a position in the order of the addresses, from 0 on.
-pub fn dpcs(w: &[u64], position: u64) -> DpcAnswer
-    ensures { result ≡ called w.now (call.Reads (call.Dpcs position)) }
+pub fn dpcs(w: &[u64], position: u64) -> Result<Option<Dpc>, SchedulerError>
+    ensures { told_by reads.told dpc.Refused result ≡ called w.now (call.Reads (call.Dpcs position)) }
 {
-    if !form::in_form(w) {
-        return DpcAnswer::Refused(27);
-    }
-    dpc_reads::dpcs_at(w, position)
+    form::check(w)?;
+    Ok(dpc_reads::dpcs_at(w, position))
 }
 
 // The DPC whose work is running or returning.
-pub fn active_dpc(w: &[u64]) -> DpcAnswer
-    ensures { result ≡ called w.now (call.Reads call.ActiveDpc) }
+pub fn active_dpc(w: &[u64]) -> Result<Option<Dpc>, SchedulerError>
+    ensures { told_by reads.told dpc.Refused result ≡ called w.now (call.Reads call.ActiveDpc) }
 {
-    if !form::in_form(w) {
-        return DpcAnswer::Refused(27);
-    }
-    dpc_reads::active_dpc(w)
+    form::check(w)?;
+    Ok(dpc_reads::active_dpc(w))
 }
 
 // The DPC whose work may start.
-pub fn next_dpc(w: &[u64]) -> DpcAnswer
-    ensures { result ≡ called w.now (call.Reads call.NextDpc) }
+pub fn next_dpc(w: &[u64]) -> Result<Option<Dpc>, SchedulerError>
+    ensures { told_by reads.told dpc.Refused result ≡ called w.now (call.Reads call.NextDpc) }
 {
-    if !form::in_form(w) {
-        return DpcAnswer::Refused(27);
-    }
-    dpc_reads::next_dpc(w)
+    form::check(w)?;
+    Ok(dpc_reads::next_dpc(w))
 }
 
-pub fn dpc_policy(w: &[u64]) -> PolicyAnswer
-    ensures { result ≡ called w.now (call.Reads call.DpcPolicy) }
+pub fn dpc_policy(w: &[u64]) -> Result<DpcPolicy, SchedulerError>
+    ensures { told_by reads.selected policy.Refused result ≡ called w.now (call.Reads call.DpcPolicy) }
 {
-    if !form::in_form(w) {
-        return PolicyAnswer::Refused(27);
-    }
-    dpc_reads::dpc_policy(w)
+    form::check(w)?;
+    Ok(dpc_reads::dpc_policy(w))
 }
 
-pub fn dpc_counters(w: &[u64]) -> CountersAnswer
-    ensures { result ≡ called w.now (call.Reads call.DpcCounters) }
+pub fn dpc_counters(w: &[u64]) -> Result<DpcCounters, SchedulerError>
+    ensures { told_by counters.Counters counters.Refused result ≡ called w.now (call.Reads call.DpcCounters) }
 {
-    if !form::in_form(w) {
-        return CountersAnswer::Refused(27);
-    }
-    dpc_reads::dpc_counters(w)
+    form::check(w)?;
+    Ok(dpc_reads::dpc_counters(w))
 }

@@ -1,6 +1,6 @@
 // The calls on a scheduler's words, as a user makes them. Each first checks the form of the words: words out of form are
 // refused with 27, and left as they are.
-#![tactic(auto)]
+#![tactic(auto, unfolding(calls::specs::Called::called, calls::specs::Guard::guarded, calls::specs::Guard::guarded_start, calls::specs::Guard::guarded_dispatch, calls::specs::Guard::readable, form::specs::Form::checked))]
 
 pub mod changes;
 pub mod dpc_calls;

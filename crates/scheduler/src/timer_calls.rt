@@ -4,11 +4,13 @@ ghost use Rattle.model.specs.Call as call;
 ghost use Rattle.calls.specs.Called.{called};
 ghost use Rattle.answers.specs.Outcome.{outcome};
 ghost use Rattle.timers.specs.Reads as read;
+ghost use Rattle.answers.specs.declared.Answer.TheVariants as answer;
+ghost use Rattle.answers.specs.Errors.{done, answer_of, told_by};
+ghost use Rattle.timers.specs.TimerAnswer as timer;
 
-use answers::Answer;
+use answers::error::SchedulerError;
 use arch::Architecture;
-use images::TimerBacking;
-use timers::TimerAnswer;
+use images::{Timer, TimerBacking};
 
 pub fn initialize_timer(
     w: &mut [u64],
@@ -16,12 +18,10 @@ pub fn initialize_timer(
     architecture: Architecture,
     backing: TimerBacking,
     manual_reset: bool,
-) -> Answer
-    ensures { outcome result w.new ≡ called w.old (call.InitializeTimer address architecture backing manual_reset) }
+) -> Result<(), SchedulerError>
+    ensures { outcome (done result) w.new ≡ called w.old (call.InitializeTimer address architecture backing manual_reset) }
 {
-    if !form::in_form(w) {
-        return Answer::Refused(27);
-    }
+    form::check(w)?;
     timers::initialize::initialize_timer(w, address, architecture, backing, manual_reset)
 }
 
@@ -32,12 +32,10 @@ pub fn initialize_dpc(
     backing: TimerBacking,
     routine: u64,
     context: u64,
-) -> Answer
-    ensures { outcome result w.new ≡ called w.old (call.InitializeDpc address architecture backing routine context) }
+) -> Result<(), SchedulerError>
+    ensures { outcome (done result) w.new ≡ called w.old (call.InitializeDpc address architecture backing routine context) }
 {
-    if !form::in_form(w) {
-        return Answer::Refused(27);
-    }
+    form::check(w)?;
     timers::initialize::initialize_dpc(w, address, architecture, backing, routine, context)
 }
 
@@ -48,104 +46,88 @@ pub fn set_timer(
     absolute: bool,
     period: i32,
     dpc: u64,
-) -> Answer
-    ensures { outcome result w.new ≡ called w.old (call.SetTimer address due absolute period dpc) }
+) -> Result<bool, SchedulerError>
+    ensures { outcome (answer_of answer.Flag result) w.new ≡ called w.old (call.SetTimer address due absolute period dpc) }
 {
-    if !form::in_form(w) {
-        return Answer::Refused(27);
-    }
+    form::check(w)?;
     arming::set_timer(w, address, due, absolute, period, dpc)
 }
 
 // A due of -d is d ticks from now; a due that is not negative is a time.
-pub fn set_timer_signed(w: &mut [u64], address: u64, due: i64, period: i32, dpc: u64) -> Answer
-    ensures { outcome result w.new ≡ called w.old (call.SetTimerSigned address due period dpc) }
+pub fn set_timer_signed(
+    w: &mut [u64],
+    address: u64,
+    due: i64,
+    period: i32,
+    dpc: u64,
+) -> Result<bool, SchedulerError>
+    ensures { outcome (answer_of answer.Flag result) w.new ≡ called w.old (call.SetTimerSigned address due period dpc) }
 {
-    if !form::in_form(w) {
-        return Answer::Refused(27);
-    }
+    form::check(w)?;
     arming::set_timer_signed(w, address, due, period, dpc)
 }
 
-pub fn cancel_timer(w: &mut [u64], address: u64) -> Answer
-    ensures { outcome result w.new ≡ called w.old (call.CancelTimer address) }
+pub fn cancel_timer(w: &mut [u64], address: u64) -> Result<bool, SchedulerError>
+    ensures { outcome (answer_of answer.Flag result) w.new ≡ called w.old (call.CancelTimer address) }
 {
-    if !form::in_form(w) {
-        return Answer::Refused(27);
-    }
+    form::check(w)?;
     arming::cancel_timer(w, address)
 }
 
-pub fn retire_timer_backing(w: &mut [u64], address: u64, size: u64) -> Answer
-    ensures { outcome result w.new ≡ called w.old (call.RetireTimerBacking address size) }
+pub fn retire_timer_backing(w: &mut [u64], address: u64, size: u64) -> Result<(), SchedulerError>
+    ensures { outcome (done result) w.new ≡ called w.old (call.RetireTimerBacking address size) }
 {
-    if !form::in_form(w) {
-        return Answer::Refused(27);
-    }
+    form::check(w)?;
     timers::release::retire_timer_backing(w, address, size)
 }
 
-pub fn require_timer_release(w: &[u64], address: u64, size: u64) -> Answer
-    ensures { result ≡ called w.now (call.Reads (call.RequireTimerRelease address size)) }
+pub fn require_timer_release(w: &[u64], address: u64, size: u64) -> Result<(), SchedulerError>
+    ensures { done result ≡ called w.now (call.Reads (call.RequireTimerRelease address size)) }
 {
-    if !form::in_form(w) {
-        return Answer::Refused(27);
-    }
+    form::check(w)?;
     timers::release::require_timer_release(w, address, size)
 }
 
-pub fn timer_initializations(w: &[u64]) -> Answer
-    ensures { result ≡ called w.now (call.Reads call.TimerInitializations) }
+pub fn timer_initializations(w: &[u64]) -> Result<u64, SchedulerError>
+    ensures { answer_of answer.Count result ≡ called w.now (call.Reads call.TimerInitializations) }
 {
-    if !form::in_form(w) {
-        return Answer::Refused(27);
-    }
-    timers::reads::timer_initializations(w)
+    form::check(w)?;
+    Ok(timers::reads::timer_initializations(w))
 }
 
-pub fn timer_read_overlap(w: &[u64], address: u64, size: u64) -> Answer
-    ensures { result ≡ called w.now (call.Reads (call.TimerReadOverlap address size)) }
+pub fn timer_read_overlap(w: &[u64], address: u64, size: u64) -> Result<bool, SchedulerError>
+    ensures { answer_of answer.Flag result ≡ called w.now (call.Reads (call.TimerReadOverlap address size)) }
 {
-    if !form::in_form(w) {
-        return Answer::Refused(27);
-    }
-    timers::reads::timer_read_overlap(w, address, size)
+    form::check(w)?;
+    Ok(timers::reads::timer_read_overlap(w, address, size))
 }
 
-pub fn timer_metadata_overlap(w: &[u64], address: u64, size: u64) -> Answer
-    ensures { result ≡ called w.now (call.Reads (call.TimerMetadataOverlap address size)) }
+pub fn timer_metadata_overlap(w: &[u64], address: u64, size: u64) -> Result<bool, SchedulerError>
+    ensures { answer_of answer.Flag result ≡ called w.now (call.Reads (call.TimerMetadataOverlap address size)) }
 {
-    if !form::in_form(w) {
-        return Answer::Refused(27);
-    }
-    timers::reads::timer_metadata_overlap(w, address, size)
+    form::check(w)?;
+    Ok(timers::reads::timer_metadata_overlap(w, address, size))
 }
 
-pub fn timer(w: &[u64], address: u64) -> TimerAnswer
-    ensures { result ≡ called w.now (call.Reads (call.TimerAt address)) }
+pub fn timer(w: &[u64], address: u64) -> Result<Timer, SchedulerError>
+    ensures { read.known result ≡ called w.now (call.Reads (call.TimerAt address)) }
 {
-    if !form::in_form(w) {
-        return TimerAnswer::Refused(27);
-    }
+    form::check(w)?;
     timers::reads::timer(w, address)
 }
 
 // The timer at a position in the order of the keys, from 0 on.
-pub fn timers(w: &[u64], position: u64) -> TimerAnswer
-    ensures { result ≡ called w.now (call.Reads (call.Timers position)) }
+pub fn timers(w: &[u64], position: u64) -> Result<Option<Timer>, SchedulerError>
+    ensures { told_by read.told timer.Refused result ≡ called w.now (call.Reads (call.Timers position)) }
 {
-    if !form::in_form(w) {
-        return TimerAnswer::Refused(27);
-    }
-    timers::reads::timers_at(w, position)
+    form::check(w)?;
+    Ok(timers::reads::timers_at(w, position))
 }
 
 // The first inserted timer that has a DPC.
-pub fn pending_timer_dpc(w: &[u64]) -> TimerAnswer
-    ensures { result ≡ called w.now (call.Reads call.PendingTimerDpc) }
+pub fn pending_timer_dpc(w: &[u64]) -> Result<Option<Timer>, SchedulerError>
+    ensures { told_by read.told timer.Refused result ≡ called w.now (call.Reads call.PendingTimerDpc) }
 {
-    if !form::in_form(w) {
-        return TimerAnswer::Refused(27);
-    }
-    timers::reads::pending_timer_dpc(w)
+    form::check(w)?;
+    Ok(timers::reads::pending_timer_dpc(w))
 }

@@ -5,61 +5,60 @@ ghost use Rattle.std.specs.Prelude.{◌≡◌, length};
 ghost use Rattle.model.specs.Call as call;
 ghost use Rattle.calls.specs.Called.{called};
 ghost use Rattle.calls.specs.Guard.{image_refused};
+ghost use Rattle.answers.specs.declared.Answer.TheVariants as answer;
+ghost use Rattle.answers.specs.Errors.{answer_of};
 ghost use Rattle.calls.specs.Images.{imaged, timer_imaged, dpc_imaged};
 
-use answers::Answer;
+use answers::error::SchedulerError;
 use dpcs::record;
+use objects::found;
 
 // The bytes that the longest image has.
 const LONGEST: usize = 64;
 
 // Whether the words are out of form, or the output is shorter than the longest image.
+#[tactic(auto, unfolding(calls::specs::Guard::image_refused))]
 fn is_refused(w: &[u64], out: &[u8]) -> bool
     ensures { result ≡ image_refused w.now out.now }
 {
-    if !form::in_form(w) {
-        return true;
-    }
-    out.len() < LONGEST
+    !form::in_form(w) || out.len() < LONGEST
 }
 
-pub fn put_timer(w: &[u64], address: u64, out: &mut [u8]) -> Answer
-    ensures { imaged result out.new ≡ timer_imaged w.now address out.old }
+#[tactic(auto, unfolding(calls::specs::Images::timer_imaged))]
+pub fn put_timer(w: &[u64], address: u64, out: &mut [u8]) -> Result<u64, SchedulerError>
+    ensures { imaged (answer_of answer.Count result) out.new ≡ timer_imaged w.now address out.old }
 {
-    let at = objects::place_of(w, objects::TIMER, address);
-    if at == 0 {
-        return Answer::Refused(2);
-    }
+    let at = found::object(w, objects::TIMER, address).ok_or(SchedulerError::Unknown)?;
     images::timer_bytes(timers::record::read_timer(w, at), out);
-    Answer::Count(timers::record::size_at(w, at))
+    Ok(timers::record::size_at(w, at))
 }
 
-pub fn put_dpc(w: &[u64], address: u64, out: &mut [u8]) -> Answer
-    ensures { imaged result out.new ≡ dpc_imaged w.now address out.old }
+#[tactic(auto, unfolding(calls::specs::Images::dpc_imaged))]
+pub fn put_dpc(w: &[u64], address: u64, out: &mut [u8]) -> Result<u64, SchedulerError>
+    ensures { imaged (answer_of answer.Count result) out.new ≡ dpc_imaged w.now address out.old }
 {
-    let n = record::number_of(w, address);
-    if n == 0 {
-        return Answer::Refused(2);
-    }
+    let n = dpcs::numbered::numbered(w, address).ok_or(SchedulerError::Unknown)?;
     let at = record::place(w, n);
     images::dpc_bytes(record::read_dpc(w, at), out);
-    Answer::Count(timers::record::dpc_size_at(w, at))
+    Ok(timers::record::dpc_size_at(w, at))
 }
 
-pub fn timer_image(w: &[u64], address: u64, out: &mut [u8]) -> Answer
-    ensures { imaged result out.new ≡ called w.now (call.Reads (call.TimerImage address (length out.old))) out.old }
+#[tactic(auto, unfolding(calls::specs::Called::called, calls::specs::Guard::guarded_image))]
+pub fn timer_image(w: &[u64], address: u64, out: &mut [u8]) -> Result<u64, SchedulerError>
+    ensures { imaged (answer_of answer.Count result) out.new ≡ called w.now (call.Reads (call.TimerImage address (length out.old))) out.old }
 {
     if is_refused(w, out) {
-        return Answer::Refused(27);
+        return Err(SchedulerError::OutOfForm);
     }
     put_timer(w, address, out)
 }
 
-pub fn dpc_image(w: &[u64], address: u64, out: &mut [u8]) -> Answer
-    ensures { imaged result out.new ≡ called w.now (call.Reads (call.DpcImage address (length out.old))) out.old }
+#[tactic(auto, unfolding(calls::specs::Called::called, calls::specs::Guard::guarded_image))]
+pub fn dpc_image(w: &[u64], address: u64, out: &mut [u8]) -> Result<u64, SchedulerError>
+    ensures { imaged (answer_of answer.Count result) out.new ≡ called w.now (call.Reads (call.DpcImage address (length out.old))) out.old }
 {
     if is_refused(w, out) {
-        return Answer::Refused(27);
+        return Err(SchedulerError::OutOfForm);
     }
     put_dpc(w, address, out)
 }

@@ -1,5 +1,5 @@
 -- The calls on threads: what refuses them, their answers, and the words after them.
-use Rattle.std.specs.Prelude.{ℕ, zero, suc, ◌+◌, ◌%◌, ◌^◌, Bool, true, false, cond, List, ◌==◌, nat_le, slice_index, slice_set}
+use Rattle.std.specs.Prelude.{ℕ, zero, suc, ◌+◌, ◌%◌, ◌^◌, Bool, true, false, cond, List, ◌==◌, nat_le, slice_index, slice_set, Option, Some, None}
 use Rattle.words.specs.Layout as at
 use Rattle.words.specs.Layout.{entry_at}
 use Rattle.chains.specs.Ready.{placed_last, unplaced}
@@ -8,10 +8,15 @@ use Rattle.threads.specs.Thread.{thread_of, put_thread, put_wait, no_wait, known
 use Rattle.objects.specs.Objects.{objects_base, object_count}
 use Rattle.waits.specs.Object.{exited}
 use Rattle.wakes.specs.Wake.{made_ready, awake}
+use Rattle.answers.specs.declared.ThreadId.{ThreadId}
 use Rattle.answers.specs.declared.Answer.{Answer}
 use Rattle.answers.specs.declared.Answer.TheVariants as answer
 use Rattle.answers.specs.Outcome.{Outcome, outcome, unless}
 use Rattle.opening.specs.Open.{bad_priority}
+
+-- the thread of a number, 0 for none
+abbrev pub numbered : ℕ → Option ThreadId
+numbered id = cond (id == 0) None (Some (record { 0 = id }))
 
 unfoldable pub current_answer : List ℕ → Answer
 current_answer w = cond (slice_index w at.current == 0) answer.None (answer.Thread (slice_index w at.current))

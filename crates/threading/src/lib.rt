@@ -1,39 +1,46 @@
 // The calls on threads. They are total: words out of form get an answer too, if no useful one.
 #![tactic(auto)]
 
-ghost use Rattle.std.specs.Prelude.{◌≡◌};
+ghost use Rattle.std.specs.Prelude.{◌≡◌, get_or};
+ghost use Rattle.words.specs.Layout as at;
+ghost use Rattle.answers.specs.declared.Answer.TheVariants as answer;
+ghost use Rattle.answers.specs.Errors.{refusal, thread_or_none, answer_of, done};
 ghost use Rattle.answers.specs.Outcome.{outcome};
-ghost use Rattle.threading.specs.Thread.{current_answer, create_refusal, created_thread, created, priority_refusal, with_priority, moved, prioritized, yielded_words, yielded, owner_at, owns_mutex, terminate_refusal, exited_words, terminated};
+ghost use Rattle.threading.specs.Thread.{numbered, current_answer, create_refusal, created_thread, created, priority_refusal, with_priority, moved, prioritized, yielded_words, yielded, owner_at, owns_mutex, terminate_refusal, exited_words, terminated};
 
-use answers::Answer;
+use answers::ThreadId;
+use answers::error::SchedulerError;
 use chains::ready;
+use threads::Thread;
 use waits::object;
 use words::layout;
 
-pub fn current(w: &[u64]) -> Answer
-    ensures { result ≡ current_answer w.now }
+// The thread that runs, if one does.
+#[tactic(auto, unfolding(crate::specs::Thread::current_answer))]
+pub fn current(w: &[u64]) -> Option<ThreadId>
+    ensures thread { result ≡ numbered (get_or w.now at.current 0) }
+    ensures answer { thread_or_none result ≡ current_answer w.now }
 {
     let id = words::get(w, layout::CURRENT);
-    if id == 0 {
-        return Answer::None;
-    }
-    Answer::Thread(id)
+    (id != 0).then_some(ThreadId(id))
 }
 
-fn create_refusal(w: &[u64], priority: u64) -> u64
-    ensures { result ≡ create_refusal w.now priority }
+#[tactic(auto, unfolding(crate::specs::Thread::create_refusal))]
+fn check_create(w: &[u64], priority: u64) -> Result<(), SchedulerError>
+    ensures { refusal result ≡ create_refusal w.now priority }
 {
     if opening::is_bad_priority(priority) {
-        return 1;
+        return Err(SchedulerError::InvalidPriority);
     }
     let limit = words::get(w, layout::THREAD_LIMIT);
     if limit <= words::get(w, layout::THREADS) {
-        return 4;
+        return Err(SchedulerError::Full);
     }
-    0
+    Ok(())
 }
 
 // Thread `id` ready for the first time.
+#[tactic(auto, unfolding(crate::specs::Thread::created_thread, threads::specs::Thread::no_wait))]
 fn add_thread(w: &mut [u64], id: u64, priority: u64)
     ensures { w.new ≡ created_thread w.old id priority }
 {
@@ -42,7 +49,7 @@ fn add_thread(w: &mut [u64], id: u64, priority: u64)
     threads::write_thread(
         w,
         id,
-        threads::Thread {
+        Thread {
             priority,
             state: threads::READY,
             result: threads::NO_RESULT,
@@ -53,74 +60,59 @@ fn add_thread(w: &mut [u64], id: u64, priority: u64)
 }
 
 // A new thread, placed last in its priority's queue.
-pub fn create_thread(w: &mut [u64], priority: u64) -> Answer
-    ensures { outcome result w.new ≡ created w.old priority }
+#[tactic(auto, unfolding(crate::specs::Thread::created))]
+pub fn create_thread(w: &mut [u64], priority: u64) -> Result<ThreadId, SchedulerError>
+    ensures { outcome (answer_of (λ id. answer.Thread id.0) result) w.new ≡ created w.old priority }
 {
-    let refusal = create_refusal(w, priority);
-    if refusal != 0 {
-        return Answer::Refused(refusal);
-    }
+    check_create(w, priority)?;
     let id = std::num::wrapping_add_u64(words::get(w, layout::THREADS), 1);
     add_thread(w, id, priority);
-    Answer::Thread(id)
+    Ok(ThreadId(id))
 }
 
-fn priority_refusal(w: &[u64], id: u64, priority: u64) -> u64
-    ensures { result ≡ priority_refusal w.now id priority }
+#[tactic(auto, unfolding(crate::specs::Thread::priority_refusal))]
+fn check_priority(w: &[u64], id: u64, priority: u64) -> Result<(), SchedulerError>
+    ensures { refusal result ≡ priority_refusal w.now id priority }
 {
     if opening::is_bad_priority(priority) {
-        return 1;
+        return Err(SchedulerError::InvalidPriority);
     }
     if !threads::is_known(w, id) {
-        return 2;
+        return Err(SchedulerError::Unknown);
     }
     if object::is_exited(w, id) {
-        return 11;
+        return Err(SchedulerError::Exited);
     }
-    0
-}
-
-fn with_priority(w: &mut [u64], id: u64, t: threads::Thread, priority: u64)
-    ensures { w.new ≡ with_priority w.old id t priority }
-{
-    threads::write_thread(
-        w,
-        id,
-        threads::Thread {
-            priority,
-            state: t.state,
-            result: t.result,
-            status: t.status,
-        },
-    );
+    Ok(())
 }
 
 // A thread with another priority; a ready one is placed last, even at the same.
+#[tactic(auto, unfolding(crate::specs::Thread::moved, crate::specs::Thread::with_priority))]
 fn change_priority(w: &mut [u64], id: u64, priority: u64)
     ensures { w.new ≡ moved w.old id priority }
 {
     let t = threads::read_thread(w, id);
+    let changed = Thread { priority, ..t };
     if t.state == threads::READY {
         ready::unplace(w, t.priority, id);
-        with_priority(w, id, t, priority);
+        threads::write_thread(w, id, changed);
         ready::place(w, priority, id);
-        return;
+    } else {
+        threads::write_thread(w, id, changed);
     }
-    with_priority(w, id, t, priority);
 }
 
-pub fn priority(w: &mut [u64], id: u64, priority: u64) -> Answer
-    ensures { outcome result w.new ≡ prioritized w.old id priority }
+#[tactic(auto, unfolding(crate::specs::Thread::prioritized))]
+pub fn priority(w: &mut [u64], id: u64, priority: u64) -> Result<(), SchedulerError>
+    ensures { outcome (done result) w.new ≡ prioritized w.old id priority }
 {
-    let refusal = priority_refusal(w, id, priority);
-    if refusal != 0 {
-        return Answer::Refused(refusal);
-    }
+    check_priority(w, id, priority)?;
     change_priority(w, id, priority);
-    Answer::Done
+    Ok(())
 }
 
 // The current thread placed last in its queue; none is current.
+#[tactic(auto, unfolding(crate::specs::Thread::yielded_words))]
 fn leave(w: &mut [u64], id: u64)
     ensures { w.new ≡ yielded_words w.old id }
 {
@@ -129,26 +121,23 @@ fn leave(w: &mut [u64], id: u64)
     wakes::make_ready(w, id, t.result);
 }
 
-pub fn yield_current(w: &mut [u64]) -> Answer
-    ensures { outcome result w.new ≡ yielded w.old }
+#[tactic(auto, unfolding(crate::specs::Thread::yielded))]
+pub fn yield_current(w: &mut [u64]) -> Result<(), SchedulerError>
+    ensures { outcome (done result) w.new ≡ yielded w.old }
 {
-    let id = words::get(w, layout::CURRENT);
-    if id == 0 {
-        return Answer::Refused(3);
-    }
+    let ThreadId(id) = current(w).ok_or(SchedulerError::NoCurrentThread)?;
     leave(w, id);
-    Answer::Done
+    Ok(())
 }
 
 // Whether the object at place `i` is a mutex that the thread owns.
+#[tactic(auto, unfolding(crate::specs::Thread::owner_at))]
 fn is_owner_at(w: &[u64], base: usize, i: u64, id: u64) -> bool
     ensures { result ≡ owner_at w.now base i id }
 {
     let at = layout::entry_at(base, i);
-    if words::get_in(w, at, layout::KIND) == objects::MUTEX {
-        return words::get_in(w, at, layout::OWNER) == id;
-    }
-    false
+    words::get_in(w, at, layout::KIND) == objects::MUTEX
+        && words::get_in(w, at, layout::OWNER) == id
 }
 
 // Whether the thread owns a mutex.
@@ -156,32 +145,23 @@ fn owns_mutex(w: &[u64], id: u64) -> bool
     ensures { result ≡ owns_mutex w.now id }
 {
     let base = objects::objects_base(w);
-    let mut i: u64 = 0;
-    let mut left = objects::count(w);
-    while 0 < left {
-        if is_owner_at(w, base, i, id) {
-            return true;
-        }
-        i += 1;
-        left -= 1;
-    }
-    false
+    (0..objects::count(w)).any(|i| is_owner_at(w, base, i, id))
 }
 
-fn terminate_refusal(w: &[u64]) -> u64
-    ensures { result ≡ terminate_refusal w.now }
+// The current thread, which owns no mutex.
+#[tactic(auto, unfolding(crate::specs::Thread::terminate_refusal))]
+fn check_terminate(w: &[u64]) -> Result<(), SchedulerError>
+    ensures { refusal result ≡ terminate_refusal w.now }
 {
-    let id = words::get(w, layout::CURRENT);
-    if id == 0 {
-        return 3;
-    }
+    let ThreadId(id) = current(w).ok_or(SchedulerError::NoCurrentThread)?;
     if owns_mutex(w, id) {
-        return 10;
+        return Err(SchedulerError::NotOwner);
     }
-    0
+    Ok(())
 }
 
 // The thread exited; none is current.
+#[tactic(auto, unfolding(crate::specs::Thread::exited_words))]
 fn exit(w: &mut [u64], id: u64, status: u64)
     ensures { w.new ≡ exited_words w.old id status }
 {
@@ -189,26 +169,23 @@ fn exit(w: &mut [u64], id: u64, status: u64)
     threads::write_thread(
         w,
         id,
-        threads::Thread {
-            priority: t.priority,
+        Thread {
             state: threads::EXITED,
-            result: t.result,
             status,
+            ..t
         },
     );
     words::put(w, layout::CURRENT, 0);
 }
 
 // The current thread exits, and one wake pass runs.
-pub fn terminate(w: &mut [u64], status: u32) -> Answer
-    ensures { outcome result w.new ≡ terminated w.old status }
+#[tactic(auto, unfolding(crate::specs::Thread::terminated))]
+pub fn terminate(w: &mut [u64], status: u32) -> Result<(), SchedulerError>
+    ensures { outcome (done result) w.new ≡ terminated w.old status }
 {
-    let refusal = terminate_refusal(w);
-    if refusal != 0 {
-        return Answer::Refused(refusal);
-    }
+    check_terminate(w)?;
     let id = words::get(w, layout::CURRENT);
-    exit(w, id, status as u64);
+    exit(w, id, u64::from(status));
     wakes::wake(w);
-    Answer::Done
+    Ok(())
 }

@@ -1,102 +1,69 @@
--- The laws of the walks over the tables, as the code counts.
-use Prim.Native.Nat.{ℕ, zero, suc, ◌+◌, ◌-◌, ◌≤◌, ◌<◌}
+-- Where the timer at a position and the last timer stand, said of lists of places.
+use Prim.Native.Nat.{ℕ, zero, suc, ◌+◌, ◌-◌, ◌<◌}
 use native.Mathlib.Omega.{arith}
-use mathlib.Core.List.{List}
 use mathlib.Core.Bool.{Bool, cond, true, false}
-use mathlib.Core.Path.{◌≡◌, refl}
+use mathlib.Core.List.{List, [], ◌∷◌}
+use mathlib.Core.Path.{◌≡◌, ◌∙◌, refl, sym, subst, ap}
+use borrow.Author.Tests.{ne_eqb}
+use lib.Dec.{eqb}
+use lib.ListN.{length}
+use Rattle.std.specs.declared.ops.Range.{Range}
+use Rattle.std.specs.List.{slice_get, filter, find, range_with_len}
+use Rattle.std.specs.Option.{MatchOption, option_map, unwrap_or}
+use Rattle.std.specs.Prelude.{Option, Some}
+use Rattle.std.proofs.lemmas.Iterator.{YieldsList}
+use Rattle.std.proofs.lemmas.Iterator.Consumers.{YieldsList-from_shown}
 use Rattle.words.specs.Layout.{entry_at}
-use Rattle.timers.specs.Record.{is_timer, some_in, first_in, each_in}
+use Rattle.timers.specs.Record.{is_timer}
 use Rattle.timers.specs.Reads.{is_nth, passed_to, nth_in, last_below}
 
-less_one : (k : ℕ) → suc k - 1 ≡ k
-less_one k = omega arith
-
--- ---- a test of each place
-
-pub some-none : (m : ℕ) (test : ℕ → Bool) (base i : ℕ) → m ≤ 0 → some_in m test base i ≡ false
-unfolding some_in
-some-none zero test base i h = refl
-some-none (suc m) test base i h = absurd (omega arith)
-
-pub some-stop : (m : ℕ) (test : ℕ → Bool) (base i : ℕ) → 0 < m → test (entry_at base i) ≡ true → some_in m test base i ≡ true
-unfolding some_in
-some-stop zero test base i h e = absurd (omega arith)
-some-stop (suc m) test base i h e = simp e
-
-pub some_more : (m : ℕ) (test : ℕ → Bool) (base i : ℕ) → 0 < m → test (entry_at base i) ≡ false
-    → some_in m test base i ≡ some_in (m - 1) test base (i + 1)
-unfolding some_in
-some_more zero test base i h e = absurd (omega arith)
-some_more (suc m) test base i h e = simp (e, less_one m)
-
-pub first-none : (m : ℕ) (test : ℕ → Bool) (base i : ℕ) → m ≤ 0 → first_in m test base i ≡ 0
-unfolding first_in
-first-none zero test base i h = refl
-first-none (suc m) test base i h = absurd (omega arith)
-
-pub first-stop : (m : ℕ) (test : ℕ → Bool) (base i : ℕ) → 0 < m → test (entry_at base i) ≡ true → first_in m test base i ≡ entry_at base i
-unfolding first_in
-first-stop zero test base i h e = absurd (omega arith)
-first-stop (suc m) test base i h e = simp e
-
-pub first_more : (m : ℕ) (test : ℕ → Bool) (base i : ℕ) → 0 < m → test (entry_at base i) ≡ false
-    → first_in m test base i ≡ first_in (m - 1) test base (i + 1)
-unfolding first_in
-first_more zero test base i h e = absurd (omega arith)
-first_more (suc m) test base i h e = simp (e, less_one m)
-
--- ---- a change at each place
-
-pub each_none : (m : ℕ) (change : List ℕ → ℕ → List ℕ) (w : List ℕ) (base i : ℕ) → m ≤ 0 → each_in m change w base i ≡ w
-unfolding each_in
-each_none zero change w base i h = refl
-each_none (suc m) change w base i h = absurd (omega arith)
-
-pub each_more : (m : ℕ) (change : List ℕ → ℕ → List ℕ) (w : List ℕ) (base i : ℕ) → 0 < m
-    → each_in m change w base i ≡ each_in (m - 1) change (change w (entry_at base i)) base (i + 1)
-unfolding each_in
-each_more zero change w base i h = absurd (omega arith)
-each_more (suc m) change w base i h = simp (less_one m)
-
--- ---- the timer at a position
-
-pub passed_none : (w : List ℕ) (place n : ℕ) → n ≡ 0 → passed_to w place n ≡ 0
-unfolding passed_to
-passed_none w place n e = go (is_timer w place)
+-- the timer at a position, said of the list of the places
+pub nth-filter : (w : List ℕ) (base m i n : ℕ)
+    → unwrap_or (option_map (entry_at base) (slice_get (filter (λ k. is_timer w (entry_at base k)) (range_with_len i m)) n)) 0 ≡ nth_in m w base i n
+unfolding nth_in is_nth passed_to
+nth-filter w base zero i n = refl
+nth-filter w base (suc m) i n = go (is_timer w (entry_at base i)) n (λ k. nth-filter w base m (i + 1) k)
   where
-    go : (b : Bool) → ◌≡◌ {A = ℕ} (cond b (n - 1) n) 0
-    go true = omega (arith, e)
-    go false = e
+    go : (b : Bool) (n : ℕ)
+        → ((k : ℕ) → unwrap_or (option_map (entry_at base) (slice_get (filter (λ k. is_timer w (entry_at base k)) (range_with_len (i + 1) m)) k)) 0 ≡ nth_in m w base (i + 1) k)
+        → unwrap_or (option_map (entry_at base) (slice_get (cond b (i ∷ filter (λ k. is_timer w (entry_at base k)) (range_with_len (i + 1) m)) (filter (λ k. is_timer w (entry_at base k)) (range_with_len (i + 1) m))) n)) 0
+        ≡ cond (cond b (eqb n 0) false) (entry_at base i) (nth_in m w base (i + 1) (cond b (n - 1) n))
+    go true zero h = refl
+    go true (suc n) h = let e : suc n - 1 ≡ n = omega arith in simp (e, ne_eqb (suc n) 0 (omega arith)) (h n)
+    go false n h = h n
 
-pub nth-none : (m : ℕ) (w : List ℕ) (base i n : ℕ) → m ≤ 0 → nth_in m w base i n ≡ 0
-unfolding nth_in
-nth-none zero w base i n h = refl
-nth-none (suc m) w base i n h = absurd (omega arith)
+-- ---- a range from its end down
 
-pub nth-stop : (m : ℕ) (w : List ℕ) (base i n : ℕ) → 0 < m → is_nth w (entry_at base i) n ≡ true → nth_in m w base i n ≡ entry_at base i
-unfolding nth_in
-nth-stop zero w base i n h e = absurd (omega arith)
-nth-stop (suc m) w base i n h e = simp e
+abbrev steps_back : Range ℕ → Option ℕ → Range ℕ → Type 0
+steps_back s r t = (t.start ≡ s.start) × MatchOption r ((s.end - s.start ≡ 0) × (t.end ≡ s.end)) (λ x. (0 < s.end - s.start) × (x ≡ t.end) × (s.end ≡ t.end + 1))
 
-pub nth-more : (m : ℕ) (w : List ℕ) (base i n : ℕ) → 0 < m → is_nth w (entry_at base i) n ≡ false
-    → nth_in m w base i n ≡ nth_in (m - 1) w base (i + 1) (passed_to w (entry_at base i) n)
-unfolding nth_in
-nth-more zero w base i n h e = absurd (omega arith)
-nth-more (suc m) w base i n h e = simp (e, less_one m)
+-- the `n` places from `a` on, the last first
+abbrev down : ℕ → ℕ → List ℕ
+down zero a = []
+down (suc n) a = (a + n) ∷ down n a
 
--- ---- the last timer
+down_more : (s : Range ℕ) (x : ℕ) (t : Range ℕ) → steps_back s (Some x) t → down (s.end - s.start) s.start ≡ x ∷ down (t.end - t.start) t.start
+down_more s x t p =
+    let m : s.end - s.start ≡ suc (t.end - t.start) = omega (arith, p.0, p.1.0, p.1.2) in
+    let h : s.start + (t.end - t.start) ≡ x = omega (arith, p.0, p.1.0, p.1.1, p.1.2) in
+    let q : t.start ≡ s.start = p.0 in
+    ap (λ k. down k s.start) m ∙ ap (λ y. y ∷ down (t.end - t.start) s.start) h ∙ ap (λ a. x ∷ down (t.end - t.start) a) (sym q)
 
-pub last_none : (n : ℕ) (w : List ℕ) (base : ℕ) → n ≤ 0 → last_below n w base ≡ 0
+pub YieldsList-from_back : {s : Range ℕ} (n : ℕ) → s ≡ record { start = 0; end = n } → YieldsList steps_back (λ x. x) s (down n 0)
+YieldsList-from_back {s} n e =
+    let l : s.end - s.start ≡ n = ap (λ (u : Range ℕ). u.end - u.start) e ∙ omega arith in
+    let z : s.start ≡ 0 = ap (λ (u : Range ℕ). u.start) e in
+    subst (λ k. YieldsList steps_back (λ x. x) s k) (ap (λ k. down k s.start) l ∙ ap (λ a. down n a) z)
+    (YieldsList-from_shown steps_back (λ x. x) (λ u. down (u.end - u.start) u.start) (λ u t p. ap (λ k. length (down k u.start)) p.1.0) down_more s)
+
+-- the last timer
+pub find-down : (w : List ℕ) (base n : ℕ) → unwrap_or (option_map (entry_at base) (find (λ k. is_timer w (entry_at base k)) (down n 0))) 0 ≡ last_below n w base
 unfolding last_below
-last_none zero w base h = refl
-last_none (suc n) w base h = absurd (omega arith)
-
-pub last-stop : (n : ℕ) (w : List ℕ) (base : ℕ) → 0 < n → is_timer w (entry_at base (n - 1)) ≡ true → last_below n w base ≡ entry_at base (n - 1)
-unfolding last_below
-last-stop zero w base h e = absurd (omega arith)
-last-stop (suc n) w base h e = let f : is_timer w (entry_at base n) ≡ true = rw (less_one n) at e in simp (f, less_one n)
-
-pub last_more : (n : ℕ) (w : List ℕ) (base : ℕ) → 0 < n → is_timer w (entry_at base (n - 1)) ≡ false → last_below n w base ≡ last_below (n - 1) w base
-unfolding last_below
-last_more zero w base h e = absurd (omega arith)
-last_more (suc n) w base h e = let f : is_timer w (entry_at base n) ≡ false = rw (less_one n) at e in simp (f, less_one n)
+find-down w base zero = refl
+find-down w base (suc n) = let e : 0 + n ≡ n = omega arith in rw e (go (is_timer w (entry_at base n)) (find-down w base n))
+  where
+    go : (b : Bool)
+        → unwrap_or (option_map (entry_at base) (find (λ k. is_timer w (entry_at base k)) (down n 0))) 0 ≡ last_below n w base
+        → unwrap_or (option_map (entry_at base) (cond b (Some n) (find (λ k. is_timer w (entry_at base k)) (down n 0)))) 0 ≡ cond b (entry_at base n) (last_below n w base)
+    go true h = refl
+    go false h = h

@@ -1,4 +1,5 @@
-pub mod Record
-pub mod Reads
 pub mod Initialize
+pub mod Reads
+pub mod Record
 pub mod Release
+pub mod TimerAnswer

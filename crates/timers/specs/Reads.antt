@@ -1,5 +1,5 @@
 -- What is read of timers. Records are walked in the table's order, by rising key.
-use Rattle.std.specs.Prelude.{Bool, cond, true, false, not, ℕ, zero, suc, ◌+◌, ◌-◌, List, get_or, eqb, ltb}
+use Rattle.std.specs.Prelude.{Bool, cond, true, false, not, ℕ, zero, suc, ◌+◌, ◌-◌, List, get_or, eqb, ltb, Option, Some, None, Result, Ok, Err}
 use Rattle.words.specs.Layout as at
 use Rattle.words.specs.Layout.{entry_at}
 use Rattle.tables.specs.Table.{position}
@@ -7,19 +7,31 @@ use Rattle.objects.specs.Objects.{objects_base, object_count, dpcs_base, place_o
 use Rattle.images.specs.Place.{overlaps}
 use Rattle.answers.specs.declared.Answer.{Answer}
 use Rattle.answers.specs.declared.Answer.TheVariants as answer
-use Rattle.timers.specs.declared.TimerAnswer.{TimerAnswer}
-use Rattle.timers.specs.declared.TimerAnswer.TheVariants as told
+use Rattle.timers.specs.TimerAnswer.{TimerAnswer}
+use Rattle.timers.specs.TimerAnswer as read
+use Rattle.answers.specs.declared.error.SchedulerError.{SchedulerError}
+use Rattle.answers.specs.Errors.{number}
+use Rattle.images.specs.declared.Timer.{Timer}
 use Rattle.dpcs.specs.Record.{dpc_count}
 use Rattle.timers.specs.Record.{timer_at, is_timer, is_inserted, size_at, dpc_size_at, first_in}
 
+-- what the reads tell
+abbrev pub told : Option Timer → TimerAnswer
+told None = read.None
+told (Some t) = read.Timer t
+
+abbrev pub known : Result Timer SchedulerError → TimerAnswer
+known (Ok t) = read.Timer t
+known (Err e) = read.Refused (number e)
+
 -- the record at a place; place 0 is none
 unfoldable pub timer_answer : List ℕ → ℕ → TimerAnswer
-timer_answer w place = cond (eqb place 0) told.None (told.Timer (timer_at w place))
+timer_answer w place = cond (eqb place 0) read.None (read.Timer (timer_at w place))
 
 -- ---- timer: 2
 
 unfoldable pub timer_read : List ℕ → ℕ → TimerAnswer
-timer_read w address = cond (eqb (place_of w 2 address) 0) (told.Refused 2) (told.Timer (timer_at w (place_of w 2 address)))
+timer_read w address = cond (eqb (place_of w 2 address) 0) (read.Refused 2) (read.Timer (timer_at w (place_of w 2 address)))
 
 -- ---- timers, by position
 

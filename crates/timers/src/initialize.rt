@@ -1,13 +1,16 @@
 // Timers and DPCs made, or made anew.
-ghost use Rattle.std.specs.Prelude.{◌≡◌};
+ghost use Rattle.std.specs.Prelude.{◌≡◌, ◌+◌, get_or, IfOk};
+ghost use Rattle.answers.specs.Errors.{refusal, done};
 ghost use Rattle.answers.specs.Outcome.{outcome};
-ghost use Rattle.timers.specs.Initialize.{new_timer, new_dpc, object_overlaps, any_object, dpc_overlaps, any_dpc, range_refusal, place_refusal, in_use, timer_refusal, never_set, located, record_put, timer_initialized, dpc_full, dpc_refusal, dpc_initialized};
+ghost use Rattle.words.specs.Layout as at;
+ghost use Rattle.timers.specs.Initialize.{new_timer, new_dpc, object_overlaps, any_object, dpc_overlaps, any_dpc, place_refusal, in_use, timer_refusal, never_set, located, record_put, timer_initialized, dpc_full, dpc_refusal, dpc_initialized};
 
 use super::record;
-use answers::Answer;
+use answers::error::SchedulerError;
 use arch::Architecture;
 use dpc_table::NewDpc;
 use images::TimerBacking;
+use objects::found;
 use words::layout;
 
 // The bytes that an event and a mutex are taken to have.
@@ -18,148 +21,119 @@ const MUTEX_SIZE: u64 = 56;
 // How many times a timer, and how many times a DPC, can be initialized.
 const LIFETIME: u64 = 65_536;
 
-// ---- 16: the range has a byte of another timer, of another DPC, of an event or of a mutex
+// ---- whether the range has a byte of another timer, of another DPC, of an event or of a mutex
 
+#[tactic(auto, unfolding(crate::specs::Initialize::object_overlaps))]
 fn object_overlaps(w: &[u64], at: usize, address: u64, size: u64) -> bool
     ensures { result ≡ object_overlaps w.now at address size }
 {
     let key = words::get_in(w, at, layout::KEY);
-    let kind = words::get_in(w, at, layout::KIND);
-    if kind == objects::TIMER {
-        if key == address {
-            return false;
+    match words::get_in(w, at, layout::KIND) {
+        objects::TIMER => {
+            key != address && images::overlap(address, size, key, record::size_at(w, at))
         }
-        return images::overlap(address, size, key, record::size_at(w, at));
+        objects::EVENT => images::overlap(address, size, key, EVENT_SIZE),
+        _ => images::overlap(address, size, key, MUTEX_SIZE),
     }
-    if kind == objects::EVENT {
-        return images::overlap(address, size, key, EVENT_SIZE);
-    }
-    images::overlap(address, size, key, MUTEX_SIZE)
 }
 
+#[tactic(auto, unfolding(crate::specs::Initialize::any_object))]
 fn any_object(w: &[u64], address: u64, size: u64) -> bool
     ensures { result ≡ any_object w.now address size }
 {
     let base = objects::objects_base(w);
-    let mut i: u64 = 0;
-    let mut left = objects::count(w);
-    while 0 < left {
-        if object_overlaps(w, layout::entry_at(base, i), address, size) {
-            return true;
-        }
-        i += 1;
-        left -= 1;
-    }
-    false
+    (0..objects::count(w)).any(|i| object_overlaps(w, layout::entry_at(base, i), address, size))
 }
 
+#[tactic(auto, unfolding(crate::specs::Initialize::dpc_overlaps))]
 fn dpc_overlaps(w: &[u64], at: usize, address: u64, size: u64) -> bool
     ensures { result ≡ dpc_overlaps w.now at address size }
 {
     let key = words::get_in(w, at, layout::ADDRESS);
-    if key == address {
-        return false;
-    }
-    images::overlap(address, size, key, record::dpc_size_at(w, at))
+    key != address && images::overlap(address, size, key, record::dpc_size_at(w, at))
 }
 
+#[tactic(auto, unfolding(crate::specs::Initialize::any_dpc))]
 fn any_dpc(w: &[u64], address: u64, size: u64) -> bool
     ensures { result ≡ any_dpc w.now address size }
 {
     let base = objects::dpcs_base(w);
-    let mut i: u64 = 0;
-    let mut left = dpcs::record::count(w);
-    while 0 < left {
-        if dpc_overlaps(w, layout::entry_at(base, i), address, size) {
-            return true;
-        }
-        i += 1;
-        left -= 1;
-    }
-    false
+    (0..dpcs::record::count(w)).any(|i| dpc_overlaps(w, layout::entry_at(base, i), address, size))
 }
 
-fn range_refusal(w: &[u64], address: u64, size: u64) -> u64
-    ensures { result ≡ range_refusal w.now address size }
-{
-    if any_object(w, address, size) {
-        return 16;
-    }
-    if any_dpc(w, address, size) {
-        return 16;
-    }
-    0
-}
-
-// 15, then 16.
-fn place_refusal(
+#[tactic(auto, unfolding(crate::specs::Initialize::place_refusal, crate::specs::Initialize::range_refusal, images::specs::Place::location_refusal))]
+fn check_place(
     w: &[u64],
     address: u64,
     size: u64,
     architecture: Architecture,
     backing: TimerBacking,
-) -> u64
-    ensures { result ≡ place_refusal w.now address size architecture backing }
+) -> Result<(), SchedulerError>
+    ensures { refusal result ≡ place_refusal w.now address size architecture backing }
 {
-    let location = images::location_refusal(address, size, architecture, backing);
-    if location != 0 {
-        return location;
+    if images::location_refusal(address, size, architecture, backing) != 0 {
+        return Err(SchedulerError::InvalidLocation);
     }
-    range_refusal(w, address, size)
+    if any_object(w, address, size) || any_dpc(w, address, size) {
+        return Err(SchedulerError::Overlap);
+    }
+    Ok(())
 }
 
 // ---- initialize_timer
 
 // Whether there is such a timer and it is inserted, or some thread waits for it.
+#[tactic(auto, unfolding(crate::specs::Initialize::in_use))]
 fn is_in_use(w: &[u64], address: u64) -> bool
     ensures { result ≡ in_use w.now address }
 {
-    if wakes::waits_on(w, objects::TIMER, address) {
-        return true;
-    }
-    let at = objects::place_of(w, objects::TIMER, address);
-    if at == 0 {
-        return false;
-    }
-    record::is_inserted(w, at)
+    wakes::waits_on(w, objects::TIMER, address)
+        || found::object(w, objects::TIMER, address).is_some_and(|at| record::is_inserted(w, at))
 }
 
-fn timer_refusal(w: &[u64], address: u64, architecture: Architecture, backing: TimerBacking) -> u64
-    ensures { result ≡ timer_refusal w.now address architecture backing }
+// The number of the initialization.
+#[tactic(auto, unfolding(crate::specs::Initialize::timer_refusal))]
+fn check_timer(
+    w: &[u64],
+    address: u64,
+    architecture: Architecture,
+    backing: TimerBacking,
+) -> Result<u64, SchedulerError>
+    ensures refused { refusal result ≡ timer_refusal w.now address architecture backing }
+    ensures number { IfOk result (λ n. n ≡ get_or w.now at.timer_initializations 0 + 1) }
 {
     if objects::collision(w, objects::TIMER, address) {
-        return 5;
+        return Err(SchedulerError::OtherKind);
     }
     if objects::is_full(w, address) {
-        return 4;
+        return Err(SchedulerError::Full);
     }
-    if LIFETIME <= words::get(w, layout::TIMER_INITIALIZATIONS) {
-        return 14;
+    let before = words::get(w, layout::TIMER_INITIALIZATIONS);
+    if LIFETIME <= before {
+        return Err(SchedulerError::Lifetime);
     }
     if is_in_use(w, address) {
-        return 6;
+        return Err(SchedulerError::InUse);
     }
-    place_refusal(
-        w,
-        address,
-        images::timer_size(architecture),
-        architecture,
-        backing,
-    )
+    let size = images::timer_size(architecture);
+    check_place(w, address, size, architecture, backing)?;
+    Ok(before + 1)
 }
 
+#[tactic(auto, unfolding(crate::specs::Initialize::new_timer))]
 fn new_timer(manual_reset: bool) -> objects::Object
     ensures { result ≡ new_timer manual_reset }
 {
     objects::Object {
         kind: objects::TIMER,
-        manual: record::flag(manual_reset),
+        manual: u64::from(manual_reset),
         signaled: 0,
         owner: 0,
     }
 }
 
 // A timer that has never been set.
+#[tactic(auto, unfolding(crate::specs::Initialize::never_set))]
 fn put_never_set(w: &mut [u64], at: usize)
     ensures { w.new ≡ never_set w.old at }
 {
@@ -171,6 +145,7 @@ fn put_never_set(w: &mut [u64], at: usize)
     words::put_in(w, at, layout::ARM, 0);
 }
 
+#[tactic(auto, unfolding(crate::specs::Initialize::located))]
 fn put_location(w: &mut [u64], at: usize, architecture: Architecture, backing: TimerBacking)
     ensures { w.new ≡ located w.old at architecture backing }
 {
@@ -187,6 +162,7 @@ fn put_location(w: &mut [u64], at: usize, architecture: Architecture, backing: T
 }
 
 // The words of a timer's record behind those of every object, for the initialization with the number `n`.
+#[tactic(auto, unfolding(crate::specs::Initialize::record_put))]
 fn put_record(
     w: &mut [u64],
     address: u64,
@@ -202,66 +178,64 @@ fn put_record(
     words::put_in(w, at, layout::INITIALIZATION, n);
 }
 
+#[tactic(auto, unfolding(crate::specs::Initialize::timer_initialized))]
 pub fn initialize_timer(
     w: &mut [u64],
     address: u64,
     architecture: Architecture,
     backing: TimerBacking,
     manual_reset: bool,
-) -> Answer
-    ensures { outcome result w.new ≡ timer_initialized w.old address architecture backing manual_reset }
+) -> Result<(), SchedulerError>
+    ensures { outcome (done result) w.new ≡ timer_initialized w.old address architecture backing manual_reset }
 {
-    let refusal = timer_refusal(w, address, architecture, backing);
-    if refusal != 0 {
-        return Answer::Refused(refusal);
-    }
-    let n = words::get(w, layout::TIMER_INITIALIZATIONS) + 1;
+    let n = check_timer(w, address, architecture, backing)?;
     objects::enter(w, address, new_timer(manual_reset));
     put_record(w, address, architecture, backing, n);
     words::put(w, layout::TIMER_INITIALIZATIONS, n);
-    Answer::Done
+    Ok(())
 }
 
 // ---- initialize_dpc
 
 // Whether the address is new and there is no room for a new DPC.
+#[tactic(auto, unfolding(crate::specs::Initialize::dpc_full))]
 fn is_dpc_full(w: &[u64], address: u64) -> bool
     ensures { result ≡ dpc_full w.now address }
 {
-    if objects::find_dpc(w, address) != 0 {
-        return false;
-    }
-    let limit = words::get(w, layout::DPC_LIMIT);
-    limit <= words::get(w, layout::DPCS)
+    found::dpc(w, address).is_none()
+        && words::get(w, layout::DPC_LIMIT) <= words::get(w, layout::DPCS)
 }
 
-fn dpc_refusal(w: &[u64], address: u64, architecture: Architecture, backing: TimerBacking) -> u64
-    ensures { result ≡ dpc_refusal w.now address architecture backing }
+// The number of the initialization.
+#[tactic(auto, unfolding(crate::specs::Initialize::dpc_refusal))]
+fn check_dpc(
+    w: &[u64],
+    address: u64,
+    architecture: Architecture,
+    backing: TimerBacking,
+) -> Result<u64, SchedulerError>
+    ensures refused { refusal result ≡ dpc_refusal w.now address architecture backing }
+    ensures number { IfOk result (λ n. n ≡ get_or w.now at.dpc_initializations 0 + 1) }
 {
     if objects::find_object(w, address) != 0 {
-        return 5;
+        return Err(SchedulerError::OtherKind);
     }
     if is_dpc_full(w, address) {
-        return 4;
+        return Err(SchedulerError::Full);
     }
-    if LIFETIME <= words::get(w, layout::DPC_INITIALIZATIONS) {
-        return 14;
+    let before = words::get(w, layout::DPC_INITIALIZATIONS);
+    if LIFETIME <= before {
+        return Err(SchedulerError::Lifetime);
     }
-    if record::is_busy(w, address) {
-        return 19;
+    if record::is_busy(w, address) || dpcs::named::is_named(w, address) {
+        return Err(SchedulerError::Busy);
     }
-    if dpcs::named::is_named(w, address) {
-        return 19;
-    }
-    place_refusal(
-        w,
-        address,
-        images::dpc_size(architecture),
-        architecture,
-        backing,
-    )
+    let size = images::dpc_size(architecture);
+    check_place(w, address, size, architecture, backing)?;
+    Ok(before + 1)
 }
 
+#[tactic(auto, unfolding(crate::specs::Initialize::new_dpc))]
 fn new_dpc(architecture: Architecture, backing: TimerBacking, routine: u64, context: u64) -> NewDpc
     ensures { result ≡ new_dpc architecture backing routine context }
 {
@@ -276,6 +250,7 @@ fn new_dpc(architecture: Architecture, backing: TimerBacking, routine: u64, cont
     }
 }
 
+#[tactic(auto, unfolding(crate::specs::Initialize::dpc_initialized))]
 pub fn initialize_dpc(
     w: &mut [u64],
     address: u64,
@@ -283,15 +258,11 @@ pub fn initialize_dpc(
     backing: TimerBacking,
     routine: u64,
     context: u64,
-) -> Answer
-    ensures { outcome result w.new ≡ dpc_initialized w.old address architecture backing routine context }
+) -> Result<(), SchedulerError>
+    ensures { outcome (done result) w.new ≡ dpc_initialized w.old address architecture backing routine context }
 {
-    let refusal = dpc_refusal(w, address, architecture, backing);
-    if refusal != 0 {
-        return Answer::Refused(refusal);
-    }
-    let n = words::get(w, layout::DPC_INITIALIZATIONS) + 1;
+    let n = check_dpc(w, address, architecture, backing)?;
     dpc_table::enter(w, address, new_dpc(architecture, backing, routine, context));
     words::put(w, layout::DPC_INITIALIZATIONS, n);
-    Answer::Done
+    Ok(())
 }

@@ -6,11 +6,3 @@ pub mod initialize;
 pub mod reads;
 pub mod record;
 pub mod release;
-
-#[derive(Clone, Copy)]
-pub enum TimerAnswer {
-    // The call is refused, by a number of document 01's table.
-    Refused(u64),
-    None,
-    Timer(images::Timer),
-}

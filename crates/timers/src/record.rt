@@ -1,19 +1,13 @@
 // A timer's record, and what the records of both tables say to the calls on timers.
 ghost use Rattle.std.specs.Prelude.{◌≡◌};
-ghost use Rattle.answers.specs.Outcome.{bit};
 ghost use Rattle.timers.specs.Record.{backing_at, timer_at, is_timer, is_inserted, size_at, dpc_size_at, busy};
 
 use images::{Timer, TimerBacking};
+use objects::found;
 use words::layout;
 
-// A truth value as a word has it.
-pub fn flag(b: bool) -> u64
-    ensures { result ≡ bit b }
-{
-    if b { 1 } else { 0 }
-}
-
 // The memory that the timer whose record stands at place `at` stands in.
+#[tactic(auto, unfolding(crate::specs::Record::backing_at))]
 fn backing_at(w: &[u64], at: usize) -> TimerBacking
     ensures { result ≡ backing_at w.now at }
 {
@@ -26,6 +20,7 @@ fn backing_at(w: &[u64], at: usize) -> TimerBacking
 }
 
 // The timer whose record stands at place `at`.
+#[tactic(auto, unfolding(crate::specs::Record::timer_at))]
 pub fn read_timer(w: &[u64], at: usize) -> Timer
     ensures { result ≡ timer_at w.now at }
 {
@@ -46,6 +41,7 @@ pub fn read_timer(w: &[u64], at: usize) -> Timer
 }
 
 // Whether the object's record at place `at` is a timer's.
+#[tactic(auto, unfolding(crate::specs::Record::is_timer))]
 pub fn is_timer(w: &[u64], at: usize) -> bool
     ensures { result ≡ is_timer w.now at }
 {
@@ -53,6 +49,7 @@ pub fn is_timer(w: &[u64], at: usize) -> bool
 }
 
 // Whether the timer at place `at` is inserted.
+#[tactic(auto, unfolding(crate::specs::Record::is_inserted))]
 pub fn is_inserted(w: &[u64], at: usize) -> bool
     ensures { result ≡ is_inserted w.now at }
 {
@@ -60,6 +57,7 @@ pub fn is_inserted(w: &[u64], at: usize) -> bool
 }
 
 // The bytes of the timer at place `at`.
+#[tactic(auto, unfolding(crate::specs::Record::size_at))]
 pub fn size_at(w: &[u64], at: usize) -> u64
     ensures { result ≡ size_at w.now at }
 {
@@ -67,6 +65,7 @@ pub fn size_at(w: &[u64], at: usize) -> u64
 }
 
 // The bytes of the DPC at place `at`.
+#[tactic(auto, unfolding(crate::specs::Record::dpc_size_at))]
 pub fn dpc_size_at(w: &[u64], at: usize) -> u64
     ensures { result ≡ dpc_size_at w.now at }
 {
@@ -74,12 +73,9 @@ pub fn dpc_size_at(w: &[u64], at: usize) -> u64
 }
 
 // Whether there is such a DPC and its work is queued, running or returning.
+#[tactic(auto, unfolding(crate::specs::Record::busy))]
 pub fn is_busy(w: &[u64], address: u64) -> bool
     ensures { result ≡ busy w.now address }
 {
-    let at = objects::find_dpc(w, address);
-    if at == 0 {
-        return false;
-    }
-    words::get_in(w, at, layout::PHASE) != 0
+    found::dpc(w, address).is_some_and(|at| words::get_in(w, at, layout::PHASE) != 0)
 }

@@ -10,7 +10,7 @@ use Rattle.answers.specs.Outcome.{outcome}
 use Rattle.dispatcher.specs.Dispatch.{told}
 use Rattle.dispatcher.specs.Dispatched.{dispatched}
 use Rattle.dpc_work.specs.Work.{start_outcome}
-use Rattle.dpc_work.specs.declared.WorkAnswer.TheVariants as work
+use Rattle.dpc_work.specs.WorkAnswer as work
 use Rattle.form.specs.Form.{in_form}
 use Rattle.model.specs.Call.{Call}
 use Rattle.calls.specs.Images.{imaged}

@@ -16,7 +16,7 @@ pub extern "C" fn unchecked_create_thread(words: &mut [u64], priority: u64, out:
         return 27;
     }
     let answer = threading::create_thread(words, priority);
-    put_answer(out, answer)
+    put_answer(out, answer.into())
 }
 
 #[unsafe(no_mangle)]
@@ -32,7 +32,7 @@ pub extern "C" fn unchecked_priority(
         return 27;
     }
     let answer = threading::priority(words, id, priority);
-    put_answer(out, answer)
+    put_answer(out, answer.into())
 }
 
 #[unsafe(no_mangle)]
@@ -43,7 +43,7 @@ pub extern "C" fn unchecked_yield_current(words: &mut [u64], out: &mut [u64]) ->
         return 27;
     }
     let answer = threading::yield_current(words);
-    put_answer(out, answer)
+    put_answer(out, answer.into())
 }
 
 #[unsafe(no_mangle)]
@@ -54,7 +54,7 @@ pub extern "C" fn unchecked_terminate(words: &mut [u64], status: u32, out: &mut 
         return 27;
     }
     let answer = threading::terminate(words, status);
-    put_answer(out, answer)
+    put_answer(out, answer.into())
 }
 
 #[unsafe(no_mangle)]
@@ -65,7 +65,7 @@ pub extern "C" fn unchecked_initialize_mutex(words: &mut [u64], key: u64, out: &
         return 27;
     }
     let answer = mutexes::initialize_mutex(words, key);
-    put_answer(out, answer)
+    put_answer(out, answer.into())
 }
 
 #[unsafe(no_mangle)]
@@ -82,7 +82,7 @@ pub extern "C" fn unchecked_adopt_mutex(
         return 27;
     }
     let answer = unchecked::adopt_mutex(words, key, owned != 0, owner);
-    put_answer(out, answer)
+    put_answer(out, answer.into())
 }
 
 #[unsafe(no_mangle)]
@@ -93,7 +93,7 @@ pub extern "C" fn unchecked_release_mutex(words: &mut [u64], key: u64, out: &mut
         return 27;
     }
     let answer = mutexes::release_mutex(words, key);
-    put_answer(out, answer)
+    put_answer(out, answer.into())
 }
 
 #[unsafe(no_mangle)]
@@ -110,7 +110,7 @@ pub extern "C" fn unchecked_initialize_event(
         return 27;
     }
     let answer = events::initialize_event(words, key, manual != 0, signaled != 0);
-    put_answer(out, answer)
+    put_answer(out, answer.into())
 }
 
 #[unsafe(no_mangle)]
@@ -121,7 +121,7 @@ pub extern "C" fn unchecked_set_event(words: &mut [u64], key: u64, out: &mut [u6
         return 27;
     }
     let answer = events::set_event(words, key);
-    put_answer(out, answer)
+    put_answer(out, answer.into())
 }
 
 #[unsafe(no_mangle)]
@@ -132,7 +132,7 @@ pub extern "C" fn unchecked_reset_event(words: &mut [u64], key: u64, out: &mut [
         return 27;
     }
     let answer = events::reset_event(words, key);
-    put_answer(out, answer)
+    put_answer(out, answer.into())
 }
 
 #[unsafe(no_mangle)]
@@ -149,7 +149,7 @@ pub extern "C" fn unchecked_retire_event_backing(
         return 27;
     }
     let answer = event_release::retire_event_backing(words, base, size, layout);
-    put_answer(out, answer)
+    put_answer(out, answer.into())
 }
 
 #[unsafe(no_mangle)]
@@ -165,7 +165,7 @@ pub extern "C" fn unchecked_delay_until(
         return 27;
     }
     let answer = waiting::delay_until(words, deadline, irql);
-    put_answer(out, answer)
+    put_answer(out, answer.into())
 }
 
 #[unsafe(no_mangle)]
@@ -176,7 +176,7 @@ pub extern "C" fn unchecked_advance_to(words: &mut [u64], time: u64, out: &mut [
         return 27;
     }
     let answer = advancing::advance_to(words, time);
-    put_answer(out, answer)
+    put_answer(out, answer.into())
 }
 
 #[unsafe(no_mangle)]
@@ -195,7 +195,7 @@ pub extern "C" fn unchecked_wait(
         return 27;
     }
     let answer = unchecked::wait(words, list, all != 0, timed != 0, deadline, irql);
-    put_answer(out, answer)
+    put_answer(out, answer.into())
 }
 
 #[unsafe(no_mangle)]
@@ -206,5 +206,5 @@ pub extern "C" fn unchecked_dispatch(words: &mut [u64], waiting: &mut [u64], out
         return 27;
     }
     let answer = dispatcher::dispatch::dispatch(words, waiting);
-    put_answer(out, answer)
+    put_answer(out, answer.into())
 }

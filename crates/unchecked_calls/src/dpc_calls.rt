@@ -21,7 +21,7 @@ pub extern "C" fn unchecked_configure_dpc_dispatch(
         return 27;
     }
     let answer = dpc_work::configure_dpc_dispatch(words, first, second);
-    put_answer(out, answer)
+    put_answer(out, answer.into())
 }
 
 #[unsafe(no_mangle)]
@@ -38,7 +38,7 @@ pub extern "C" fn unchecked_insert_queue_dpc(
         return 27;
     }
     let answer = dpc_work::insert_queue_dpc(words, address, first, second);
-    put_answer(out, answer)
+    put_answer(out, answer.into())
 }
 
 #[unsafe(no_mangle)]
@@ -53,7 +53,7 @@ pub extern "C" fn unchecked_remove_queue_dpc(
         return 27;
     }
     let answer = dpc_work::remove_queue_dpc(words, address);
-    put_answer(out, answer)
+    put_answer(out, answer.into())
 }
 
 #[unsafe(no_mangle)]
@@ -80,7 +80,7 @@ pub extern "C" fn unchecked_returned_dpc(
         return 27;
     }
     let answer = dpc_work::returned_dpc(words, address, sequence);
-    put_answer(out, answer)
+    put_answer(out, answer.into())
 }
 
 #[unsafe(no_mangle)]
@@ -96,5 +96,5 @@ pub extern "C" fn unchecked_restored_dpc(
         return 27;
     }
     let answer = dpc_work::restored_dpc(words, address, sequence);
-    put_answer(out, answer)
+    put_answer(out, answer.into())
 }

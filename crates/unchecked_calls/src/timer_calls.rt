@@ -28,7 +28,7 @@ pub extern "C" fn unchecked_initialize_timer(
     let a = images::architecture_of(architecture);
     let b = backings::lent_backing(architecture, backing, base, size, mapped);
     let answer = timers::initialize::initialize_timer(words, address, a, b, manual != 0);
-    put_answer(out, answer)
+    put_answer(out, answer.into())
 }
 
 #[unsafe(no_mangle)]
@@ -52,7 +52,7 @@ pub extern "C" fn unchecked_initialize_dpc(
     let a = images::architecture_of(architecture);
     let b = backings::lent_backing(architecture, backing, base, size, mapped);
     let answer = timers::initialize::initialize_dpc(words, address, a, b, routine, context);
-    put_answer(out, answer)
+    put_answer(out, answer.into())
 }
 
 #[unsafe(no_mangle)]
@@ -71,7 +71,7 @@ pub extern "C" fn unchecked_set_timer(
         return 27;
     }
     let answer = arming::set_timer(words, address, due, absolute != 0, period, dpc);
-    put_answer(out, answer)
+    put_answer(out, answer.into())
 }
 
 // A due of -d is d ticks from now; a due that is not negative is a time.
@@ -90,7 +90,7 @@ pub extern "C" fn unchecked_set_timer_signed(
         return 27;
     }
     let answer = arming::set_timer_signed(words, address, due, period, dpc);
-    put_answer(out, answer)
+    put_answer(out, answer.into())
 }
 
 #[unsafe(no_mangle)]
@@ -101,7 +101,7 @@ pub extern "C" fn unchecked_cancel_timer(words: &mut [u64], address: u64, out: &
         return 27;
     }
     let answer = arming::cancel_timer(words, address);
-    put_answer(out, answer)
+    put_answer(out, answer.into())
 }
 
 #[unsafe(no_mangle)]
@@ -117,5 +117,5 @@ pub extern "C" fn unchecked_retire_timer_backing(
         return 27;
     }
     let answer = timers::release::retire_timer_backing(words, address, size);
-    put_answer(out, answer)
+    put_answer(out, answer.into())
 }

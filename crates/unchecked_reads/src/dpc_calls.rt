@@ -17,7 +17,7 @@ pub extern "C" fn unchecked_dpc_initializations(words: &[u64], out: &mut [u64]) 
         return 27;
     }
     let answer = dpc_reads::dpc_initializations(words);
-    put_answer(out, answer)
+    put_answer(out, answer.into())
 }
 
 #[unsafe(no_mangle)]
@@ -28,7 +28,7 @@ pub extern "C" fn unchecked_queued_dpcs(words: &[u64], position: u64, out: &mut 
         return 27;
     }
     let answer = dpc_reads::queued_dpcs(words, position);
-    put_answer(out, answer)
+    put_answer(out, answer.into())
 }
 
 #[unsafe(no_mangle)]
@@ -38,7 +38,7 @@ pub extern "C" fn unchecked_dpc(words: &[u64], address: u64, out: &mut [u64]) ->
     if out.len() < 24 {
         return 27;
     }
-    let answer = dpc_reads::dpc(words, address);
+    let answer = dpc_reads::dpc(words, address).map(Some);
     put_dpc_answer(out, answer)
 }
 
@@ -50,7 +50,7 @@ pub extern "C" fn unchecked_dpcs(words: &[u64], position: u64, out: &mut [u64]) 
         return 27;
     }
     let answer = dpc_reads::dpcs_at(words, position);
-    put_dpc_answer(out, answer)
+    put_dpc_answer(out, Ok(answer))
 }
 
 #[unsafe(no_mangle)]
@@ -61,7 +61,7 @@ pub extern "C" fn unchecked_active_dpc(words: &[u64], out: &mut [u64]) -> u64
         return 27;
     }
     let answer = dpc_reads::active_dpc(words);
-    put_dpc_answer(out, answer)
+    put_dpc_answer(out, Ok(answer))
 }
 
 #[unsafe(no_mangle)]
@@ -72,7 +72,7 @@ pub extern "C" fn unchecked_next_dpc(words: &[u64], out: &mut [u64]) -> u64
         return 27;
     }
     let answer = dpc_reads::next_dpc(words);
-    put_dpc_answer(out, answer)
+    put_dpc_answer(out, Ok(answer))
 }
 
 #[unsafe(no_mangle)]
@@ -83,7 +83,7 @@ pub extern "C" fn unchecked_dpc_policy(words: &[u64], out: &mut [u64]) -> u64
         return 27;
     }
     let answer = dpc_reads::dpc_policy(words);
-    put_policy_answer(out, answer)
+    put_policy_answer(out, Ok(answer))
 }
 
 #[unsafe(no_mangle)]
@@ -94,5 +94,5 @@ pub extern "C" fn unchecked_dpc_counters(words: &[u64], out: &mut [u64]) -> u64
         return 27;
     }
     let answer = dpc_reads::dpc_counters(words);
-    put_counters_answer(out, answer)
+    put_counters_answer(out, Ok(answer))
 }

@@ -17,7 +17,7 @@ pub extern "C" fn unchecked_event_entry(words: &[u64], entry: u64, out: &mut [u6
         return 27;
     }
     let answer = entries::event_entry(words, entry);
-    put_answer(out, answer)
+    put_answer(out, answer.into())
 }
 
 #[unsafe(no_mangle)]

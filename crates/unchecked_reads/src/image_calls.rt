@@ -19,7 +19,7 @@ pub extern "C" fn unchecked_timer_image(
         return 27;
     }
     let answer = unchecked::timer_image(words, address, bytes);
-    put_answer(out, answer)
+    put_answer(out, answer.into())
 }
 
 #[unsafe(no_mangle)]
@@ -35,5 +35,5 @@ pub extern "C" fn unchecked_dpc_image(
         return 27;
     }
     let answer = unchecked::dpc_image(words, address, bytes);
-    put_answer(out, answer)
+    put_answer(out, answer.into())
 }

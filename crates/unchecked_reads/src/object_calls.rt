@@ -16,7 +16,7 @@ pub extern "C" fn unchecked_current(words: &[u64], out: &mut [u64]) -> u64
         return 27;
     }
     let answer = threading::current(words);
-    put_answer(out, answer)
+    put_answer(out, answer.into())
 }
 
 #[unsafe(no_mangle)]
@@ -27,7 +27,7 @@ pub extern "C" fn unchecked_mutex_owner(words: &[u64], key: u64, out: &mut [u64]
         return 27;
     }
     let answer = mutexes::mutex_owner(words, key);
-    put_answer(out, answer)
+    put_answer(out, answer.into())
 }
 
 #[unsafe(no_mangle)]
@@ -38,7 +38,7 @@ pub extern "C" fn unchecked_mutex_waiters(words: &[u64], key: u64, out: &mut [u6
         return 27;
     }
     let answer = mutexes::mutex_waiters(words, key);
-    put_answer(out, answer)
+    put_answer(out, answer.into())
 }
 
 #[unsafe(no_mangle)]
@@ -49,7 +49,7 @@ pub extern "C" fn unchecked_event_state(words: &[u64], key: u64, out: &mut [u64]
         return 27;
     }
     let answer = events::event_state(words, key);
-    put_answer(out, answer)
+    put_answer(out, answer.into())
 }
 
 #[unsafe(no_mangle)]
@@ -60,7 +60,7 @@ pub extern "C" fn unchecked_event_states(words: &[u64], position: u64, out: &mut
         return 27;
     }
     let answer = event_release::event_states(words, position);
-    put_answer(out, answer)
+    put_answer(out, answer.into())
 }
 
 #[unsafe(no_mangle)]
@@ -77,5 +77,5 @@ pub extern "C" fn unchecked_require_event_release(
         return 27;
     }
     let answer = event_release::require_event_release(words, base, size, layout);
-    put_answer(out, answer)
+    put_answer(out, answer.into())
 }

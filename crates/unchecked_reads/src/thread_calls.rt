@@ -16,7 +16,7 @@ pub extern "C" fn unchecked_thread(words: &[u64], id: u64, out: &mut [u64]) -> u
         return 27;
     }
     let answer = dispatcher::read::thread(words, id);
-    put_thread_answer(out, answer)
+    put_thread_answer(out, Ok(answer))
 }
 
 #[unsafe(no_mangle)]
@@ -27,7 +27,7 @@ pub extern "C" fn unchecked_threads(words: &[u64], position: u64, out: &mut [u64
         return 27;
     }
     let answer = dispatcher::read::threads_at(words, position);
-    put_thread_answer(out, answer)
+    put_thread_answer(out, Ok(answer))
 }
 
 #[unsafe(no_mangle)]
@@ -43,5 +43,5 @@ pub extern "C" fn unchecked_waited_object(
         return 27;
     }
     let answer = dispatcher::read::waited_object(words, id, position);
-    put_place_answer(out, answer)
+    put_place_answer(out, Ok(answer))
 }

@@ -22,7 +22,7 @@ pub extern "C" fn unchecked_require_timer_release(
         return 27;
     }
     let answer = timers::release::require_timer_release(words, address, size);
-    put_answer(out, answer)
+    put_answer(out, answer.into())
 }
 
 #[unsafe(no_mangle)]
@@ -33,7 +33,7 @@ pub extern "C" fn unchecked_timer_initializations(words: &[u64], out: &mut [u64]
         return 27;
     }
     let answer = timers::reads::timer_initializations(words);
-    put_answer(out, answer)
+    put_answer(out, answer.into())
 }
 
 #[unsafe(no_mangle)]
@@ -49,7 +49,7 @@ pub extern "C" fn unchecked_timer_read_overlap(
         return 27;
     }
     let answer = timers::reads::timer_read_overlap(words, address, size);
-    put_answer(out, answer)
+    put_answer(out, answer.into())
 }
 
 #[unsafe(no_mangle)]
@@ -65,7 +65,7 @@ pub extern "C" fn unchecked_timer_metadata_overlap(
         return 27;
     }
     let answer = timers::reads::timer_metadata_overlap(words, address, size);
-    put_answer(out, answer)
+    put_answer(out, answer.into())
 }
 
 #[unsafe(no_mangle)]
@@ -75,7 +75,7 @@ pub extern "C" fn unchecked_timer(words: &[u64], address: u64, out: &mut [u64]) 
     if out.len() < 24 {
         return 27;
     }
-    let answer = timers::reads::timer(words, address);
+    let answer = timers::reads::timer(words, address).map(Some);
     put_timer_answer(out, answer)
 }
 
@@ -87,7 +87,7 @@ pub extern "C" fn unchecked_timers(words: &[u64], position: u64, out: &mut [u64]
         return 27;
     }
     let answer = timers::reads::timers_at(words, position);
-    put_timer_answer(out, answer)
+    put_timer_answer(out, Ok(answer))
 }
 
 #[unsafe(no_mangle)]
@@ -98,5 +98,5 @@ pub extern "C" fn unchecked_pending_timer_dpc(words: &[u64], out: &mut [u64]) ->
         return 27;
     }
     let answer = timers::reads::pending_timer_dpc(words);
-    put_timer_answer(out, answer)
+    put_timer_answer(out, Ok(answer))
 }

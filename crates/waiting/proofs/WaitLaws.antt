@@ -1,11 +1,13 @@
--- The bound that the calls on a list need.
-use Rattle.std.proofs.Common.{◌≡◌, ℕ, ◌/◌, ◌≤◌, Bool, true, false, cond, leb, List, length, refl, arith, leb-true}
-use Rattle.waiting.specs.Wait.{pair_count}
+-- The record of a wait: its word for a deadline, and how many objects it has.
+use Rattle.std.proofs.Common.{◌≡◌, ℕ, List, Bool, true, false, not, eqb, refl}
+use Rattle.answers.specs.Outcome.{bit}
+use Rattle.threads.specs.Thread.{recorded}
 
-pub pairs-most : (list : List ℕ) → pair_count list ≤ 64
-unfolding pair_count
-pairs-most list = go (leb (length list / 2) 64) refl
-  where
-    go : (b : Bool) → leb (length list / 2) 64 ≡ b → cond b (length list / 2) 64 ≤ 64
-    go true e = leb-true _ _ e
-    go false e = omega arith
+pub recorded_timed : (list : List ℕ) (n all : ℕ) (b : Bool) (deadline sequence : ℕ) → not (eqb (recorded list n all (bit b) deadline sequence).timed 0) ≡ b
+unfolding recorded
+recorded_timed list n all true deadline sequence = refl
+recorded_timed list n all false deadline sequence = refl
+
+pub recorded_count : (list : List ℕ) (n all timed deadline sequence : ℕ) → (recorded list n all timed deadline sequence).count ≡ n
+unfolding recorded
+recorded_count list n all timed deadline sequence = refl

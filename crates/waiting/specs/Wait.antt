@@ -7,7 +7,12 @@ use Rattle.chains.specs.Ready.{waiters_chain}
 use Rattle.threads.specs.declared.Wait.{Wait}
 use Rattle.threads.specs.Thread.{thread_of, put_thread, put_wait, recorded}
 use Rattle.waits.specs.Lists.{bad_kind_in, duplicate_in, unknown_in, owned_in, met_in, index_in, takes_list}
+use Rattle.answers.specs.declared.Answer.{Answer}
 use Rattle.answers.specs.declared.Answer.TheVariants as answer
+use Rattle.waiting.specs.declared.WaitResult.{WaitResult}
+use Rattle.waiting.specs.declared.WaitResult.TheVariants as ended
+use Rattle.waiting.specs.declared.WaitOutcome.{WaitOutcome}
+use Rattle.waiting.specs.declared.WaitOutcome.TheVariants as wait
 use Rattle.answers.specs.Outcome.{Outcome, outcome, unless, bit}
 
 -- ---- what refuses
@@ -91,3 +96,13 @@ delayed w deadline irql =
     let id = slice_index_or w at.current 0 in
     cond (nat_lt 1 irql) (outcome (answer.Refused 9) w)
     (cond (id == 0) (outcome (answer.Refused 3) w) (decided w id true irql (delay_wait deadline (slice_index w at.sequence))))
+
+-- ---- what a call tells
+
+abbrev pub told_result : WaitResult → Answer
+told_result (ended.Satisfied i) = answer.Satisfied i
+told_result ended.Timeout = answer.Timeout
+
+abbrev pub told : WaitOutcome → Answer
+told (wait.Immediate r) = told_result r
+told wait.Blocked = answer.Blocked

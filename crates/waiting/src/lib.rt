@@ -1,99 +1,109 @@
 // The calls by which the current thread waits.
 #![tactic(auto)]
 
-ghost use Rattle.std.specs.Prelude.{◌≡◌, ◌≤◌};
-ghost use Rattle.answers.specs.Outcome.{outcome, bit};
-ghost use Rattle.waiting.specs.Wait.{pair_count, list_refusal, wait_refusal, block_refusal, reached, with_result, left, parked, blocked_words, granted, timed_out, decided, decided_list, waited, delay_wait, delayed};
+ghost use Rattle.std.specs.Prelude.{◌≡◌, ◌≤◌, ◌==◌, not};
+ghost use Rattle.answers.specs.Errors.{refusal, answer_of};
+ghost use Rattle.answers.specs.Outcome.{outcome};
+ghost use Rattle.waiting.specs.Wait.{pair_count, list_refusal, wait_refusal, block_refusal, reached, with_result, left, parked, blocked_words, granted, timed_out, decided, waited, delay_wait, delayed, told_result, told};
 
 use answers::Answer;
+use answers::error::SchedulerError;
 use chains::ready;
 use waits::lists;
 use words::layout;
 
-fn flag(b: bool) -> u64
-    ensures { result ≡ bit b }
-{
-    if b { 1 } else { 0 }
+// A wait that has ended.
+#[derive(Clone, Copy, Debug, PartialEq, Eq)]
+pub enum WaitResult {
+    // By an object, the one that the index says where the wait is for any.
+    Satisfied(u64),
+    Timeout,
+}
+
+#[derive(Clone, Copy, Debug, PartialEq, Eq)]
+pub enum WaitOutcome {
+    Immediate(WaitResult),
+    Blocked,
+}
+
+impl From<WaitOutcome> for Answer {
+    ghost from_gives = { λ o a. a ≡ told o };
+
+    fn from(outcome: WaitOutcome) -> Answer {
+        match outcome {
+            WaitOutcome::Immediate(WaitResult::Satisfied(i)) => Answer::Satisfied(i),
+            WaitOutcome::Immediate(WaitResult::Timeout) => Answer::Timeout,
+            WaitOutcome::Blocked => Answer::Blocked,
+        }
+    }
 }
 
 // How many pairs the list has, at most 64.
+#[tactic(auto, unfolding(crate::specs::Wait::pair_count))]
 fn pairs(list: &[u64]) -> usize
-    ensures { result ≡ pair_count list.now }
+    ensures count { result ≡ pair_count list.now }
+    ensures most { result ≤ 64 }
 {
-    let n = list.len() / 2;
-    if n <= 64 {
-        return n;
-    }
-    64
+    (list.len() / 2).min(64)
 }
 
-// 7 for a list of 0, over 64, odd length, a kind over 3, or a duplicate.
-fn list_refusal(list: &[u64]) -> u64
-    ensures { result ≡ list_refusal list.now }
+// Whether the list is one to wait for: 1 to 64 pairs, no kind over 3, no duplicate.
+#[tactic(auto, unfolding(crate::specs::Wait::list_refusal))]
+fn check_list(list: &[u64]) -> Result<(), SchedulerError>
+    ensures { refusal result ≡ list_refusal list.now }
 {
-    if list.len() % 2 != 0 {
-        return 7;
-    }
-    if list.len() == 0 {
-        return 7;
-    }
-    if 128 < list.len() {
-        return 7;
+    if list.len() % 2 != 0 || list.is_empty() || 128 < list.len() {
+        return Err(SchedulerError::InvalidList);
     }
     let n = pairs(list);
-    if lists::has_bad_kind(list, 0, n) {
-        return 7;
+    if lists::has_bad_kind(list, 0, n) || lists::has_duplicate(list, 0, n) {
+        return Err(SchedulerError::InvalidList);
     }
-    if lists::has_duplicate(list, 0, n) {
-        return 7;
-    }
-    0
+    Ok(())
 }
 
-fn wait_refusal(w: &[u64], list: &[u64]) -> u64
-    ensures { result ≡ wait_refusal w.now list.now }
+#[tactic(auto, unfolding(crate::specs::Wait::wait_refusal))]
+fn check_wait(w: &[u64], list: &[u64]) -> Result<(), SchedulerError>
+    ensures { refusal result ≡ wait_refusal w.now list.now }
 {
     let id = words::get(w, layout::CURRENT);
     if id == 0 {
-        return 3;
+        return Err(SchedulerError::NoCurrentThread);
     }
-    let bad = list_refusal(list);
-    if bad != 0 {
-        return bad;
-    }
+    check_list(list)?;
     let n = pairs(list);
     if lists::has_unknown(w, list, 0, n) {
-        return 2;
+        return Err(SchedulerError::Unknown);
     }
     if lists::has_owned(w, id, list, 0, n) {
-        return 8;
+        return Err(SchedulerError::OwnMutex);
     }
-    0
+    Ok(())
 }
 
-// What refuses to block: 9 IRQL over 1; 24 no wait sequence left.
-fn block_refusal(w: &[u64], irql: u64) -> u64
-    ensures { result ≡ block_refusal w.now irql }
+// Whether a thread may block: not over IRQL 1, nor where no wait sequence is left.
+#[tactic(auto, unfolding(crate::specs::Wait::block_refusal))]
+fn check_block(w: &[u64], irql: u64) -> Result<(), SchedulerError>
+    ensures { refusal result ≡ block_refusal w.now irql }
 {
     if 1 < irql {
-        return 9;
+        return Err(SchedulerError::InvalidIrql);
     }
-    if u64::MAX <= words::get(w, layout::SEQUENCE) {
-        return 24;
+    if words::get(w, layout::SEQUENCE) == u64::MAX {
+        return Err(SchedulerError::CountOverflow);
     }
-    0
+    Ok(())
 }
 
-// Whether a deadline, if there is one, has been reached.
-fn is_reached(w: &[u64], timed: bool, deadline: u64) -> bool
-    ensures { result ≡ reached w.now timed deadline }
+// Whether the wait's deadline, if it has one, has been reached.
+#[tactic(auto, unfolding(crate::specs::Wait::reached))]
+fn is_reached(w: &[u64], x: &threads::Wait) -> bool
+    ensures { result ≡ reached w.now (not (x.now.timed == 0)) x.now.deadline }
 {
-    if timed {
-        return deadline <= words::get(w, layout::NOW);
-    }
-    false
+    x.timed != 0 && x.deadline <= words::get(w, layout::NOW)
 }
 
+#[tactic(auto, unfolding(crate::specs::Wait::with_result))]
 fn set_result(w: &mut [u64], id: u64, res: u64)
     ensures { w.new ≡ with_result w.old id res }
 {
@@ -101,6 +111,7 @@ fn set_result(w: &mut [u64], id: u64, res: u64)
 }
 
 // No thread current, and the sequence of the next wait.
+#[tactic(auto, unfolding(crate::specs::Wait::left))]
 fn leave(w: &mut [u64], sequence: u64)
     ensures { w.new ≡ left w.old sequence }
 {
@@ -109,23 +120,20 @@ fn leave(w: &mut [u64], sequence: u64)
 }
 
 // The thread waiting, last in the order of blocking.
+#[tactic(auto, unfolding(crate::specs::Wait::parked))]
 fn park(w: &mut [u64], id: u64)
     ensures { w.new ≡ parked w.old id }
 {
-    let t = threads::read_thread(w, id);
-    threads::write_thread(
-        w,
-        id,
-        threads::Thread {
-            priority: t.priority,
-            state: threads::WAITING,
-            result: threads::NO_RESULT,
-            status: t.status,
-        },
-    );
+    let t = threads::Thread {
+        state: threads::WAITING,
+        result: threads::NO_RESULT,
+        ..threads::read_thread(w, id)
+    };
+    threads::write_thread(w, id, t);
     chains::push(w, ready::waiters_chain(), id);
 }
 
+#[tactic(auto, unfolding(crate::specs::Wait::blocked_words))]
 fn block(w: &mut [u64], id: u64, x: threads::Wait)
     requires { x.count ≤ 64 }
     ensures { w.new ≡ blocked_words w.old id x }
@@ -136,76 +144,71 @@ fn block(w: &mut [u64], id: u64, x: threads::Wait)
 }
 
 // A wait that is granted at once.
-fn grant(w: &mut [u64], id: u64, list: &[u64], n: usize, all: u64) -> Answer
+#[tactic(auto, unfolding(crate::specs::Wait::granted))]
+fn grant(w: &mut [u64], id: u64, list: &[u64], n: usize, all: u64) -> WaitResult
     requires { n ≤ 64 }
-    ensures { outcome result w.new ≡ granted w.old id list.now n all }
+    ensures { outcome (told_result result) w.new ≡ granted w.old id list.now n all }
 {
     let i = lists::index(w, list, 0, n, all);
     lists::takes_list(w, id, list, n, all);
     set_result(w, id, std::num::wrapping_add_u64(i, threads::SATISFIED));
-    Answer::Satisfied(i)
+    WaitResult::Satisfied(i)
 }
 
-fn time_out(w: &mut [u64], id: u64) -> Answer
-    ensures { outcome result w.new ≡ timed_out w.old id }
+#[tactic(auto, unfolding(crate::specs::Wait::timed_out))]
+fn time_out(w: &mut [u64], id: u64) -> WaitResult
+    ensures { outcome (told_result result) w.new ≡ timed_out w.old id }
 {
     set_result(w, id, threads::TIMEOUT);
-    Answer::Timeout
+    WaitResult::Timeout
 }
 
 // A wait that nothing grants: a timeout, a refusal to block, or blocked.
-fn decide(w: &mut [u64], id: u64, timed: bool, irql: u64, x: threads::Wait) -> Answer
-    requires { x.count ≤ 64 }
-    ensures { outcome result w.new ≡ decided w.old id timed irql x }
-{
-    if is_reached(w, timed, x.deadline) {
-        return time_out(w, id);
-    }
-    let refusal = block_refusal(w, irql);
-    if refusal != 0 {
-        return Answer::Refused(refusal);
-    }
-    block(w, id, x);
-    Answer::Blocked
-}
-
-// The same for a wait for the first `n` pairs of `list`.
-fn decide_list(
+#[tactic(auto, unfolding(crate::specs::Wait::decided))]
+fn decide(
     w: &mut [u64],
     id: u64,
-    list: &[u64],
-    n: usize,
-    all: u64,
-    timed: bool,
-    deadline: u64,
     irql: u64,
-) -> Answer
-    requires { n ≤ 64 }
-    ensures { outcome result w.new ≡ decided_list w.old id list.now n all timed deadline irql }
+    x: threads::Wait,
+) -> Result<WaitOutcome, SchedulerError>
+    requires { x.count ≤ 64 }
+    ensures { outcome (answer_of told result) w.new ≡ decided w.old id (not (x.timed == 0)) irql x }
 {
-    let sequence = words::get(w, layout::SEQUENCE);
-    let x = threads::record_of(list, n, all, flag(timed), deadline, sequence);
-    decide(w, id, timed, irql, x)
+    if is_reached(w, &x) {
+        return Ok(WaitOutcome::Immediate(time_out(w, id)));
+    }
+    check_block(w, irql)?;
+    block(w, id, x);
+    Ok(WaitOutcome::Blocked)
 }
 
-// The current thread waits for any or all of the objects of `list`, pairs of a kind and a key.
-pub fn wait(w: &mut [u64], list: &[u64], all: bool, timed: bool, deadline: u64, irql: u8) -> Answer
-    ensures { outcome result w.new ≡ waited w.old list.now all timed deadline irql }
+// The current thread waits for any or all of the objects of `list`, pairs of a kind and a key. The words keep the deadline as
+// it is given, also where it does not count.
+#[tactic(auto, using(crate::proofs::WaitLaws::recorded_timed, crate::proofs::WaitLaws::recorded_count), unfolding(crate::specs::Wait::waited, crate::specs::Wait::decided_list))]
+pub fn wait(
+    w: &mut [u64],
+    list: &[u64],
+    all: bool,
+    timed: bool,
+    deadline: u64,
+    irql: u8,
+) -> Result<WaitOutcome, SchedulerError>
+    ensures { outcome (answer_of told result) w.new ≡ waited w.old list.now all timed deadline irql }
 {
-    let refusal = wait_refusal(w, list);
-    if refusal != 0 {
-        return Answer::Refused(refusal);
-    }
+    check_wait(w, list)?;
     let id = words::get(w, layout::CURRENT);
     let n = pairs(list);
-    let every = flag(all);
+    let every = u64::from(all);
     if lists::is_met(w, list, 0, n, every) {
-        return grant(w, id, list, n, every);
+        return Ok(WaitOutcome::Immediate(grant(w, id, list, n, every)));
     }
-    decide_list(w, id, list, n, every, timed, deadline, irql as u64)
+    let sequence = words::get(w, layout::SEQUENCE);
+    let x = threads::record_of(list, n, every, u64::from(timed), deadline, sequence);
+    decide(w, id, irql as u64, x)
 }
 
 // A wait for no object, until a deadline.
+#[tactic(auto, unfolding(crate::specs::Wait::delay_wait))]
 fn delay_wait(deadline: u64, sequence: u64) -> threads::Wait
     ensures { result ≡ delay_wait deadline sequence }
 {
@@ -220,16 +223,17 @@ fn delay_wait(deadline: u64, sequence: u64) -> threads::Wait
 }
 
 // The current thread waits for the deadline alone.
-pub fn delay_until(w: &mut [u64], deadline: u64, irql: u8) -> Answer
-    ensures { outcome result w.new ≡ delayed w.old deadline irql }
+#[tactic(auto, unfolding(crate::specs::Wait::delayed, crate::specs::Wait::delay_wait))]
+pub fn delay_until(w: &mut [u64], deadline: u64, irql: u8) -> Result<WaitOutcome, SchedulerError>
+    ensures { outcome (answer_of told result) w.new ≡ delayed w.old deadline irql }
 {
     if 1 < irql {
-        return Answer::Refused(9);
+        return Err(SchedulerError::InvalidIrql);
     }
     let id = words::get(w, layout::CURRENT);
     if id == 0 {
-        return Answer::Refused(3);
+        return Err(SchedulerError::NoCurrentThread);
     }
     let sequence = words::get(w, layout::SEQUENCE);
-    decide(w, id, true, irql as u64, delay_wait(deadline, sequence))
+    decide(w, id, irql as u64, delay_wait(deadline, sequence))
 }

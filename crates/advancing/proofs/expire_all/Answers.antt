@@ -1,17 +1,17 @@
-use mathlib.Core.Path.{◌∙◌, sym}
-use native.Mathlib.Omega.{arith}
-use Rattle.threads.proofs.ThreadLaws.{count_small}
+use Rattle.std.proofs.Common.{arith, ◌≡◌, ◌+◌, ◌-◌, sym, ◌∙◌}
+use Rattle.threads.specs.Thread.{thread_count}
 use Rattle.advancing.specs.Advance.{expired_all}
 use Rattle.advancing.proofs.AdvanceLaws.{expired-none, expired-more}
-use borrow.Author.Rules.{rules}
 use Rattle.advancing.proofs.expire_all.Goals as goal
 
-pub loop-left-init : goal.loop-left-init
+pub loop-i-init : goal.loop-i-init
 unfolding expired_all
-loop-left-init c = (omega (arith, count_small c.args.w.now, c.count-left.ensures), search rules, cc)
+loop-i-init c = let e : thread_count c.args.w.now - 0 ≡ thread_count c.args.w.now = omega arith in cc
 
-pub loop-left-preserved : goal.loop-left-preserved
-loop-left-preserved c = (search rules, search rules, cc (expired-more c.loop-left.left c.loop-left.w c.loop-left.id c.args.time c.loop-left-test.true))
+pub loop-i-preserved : goal.loop-i-preserved
+loop-i-preserved c =
+    let e : thread_count c.args.w.now - (c.loop-i.i + 1) ≡ thread_count c.args.w.now - c.loop-i.i - 1 = omega arith in
+    cc (expired-more (thread_count c.args.w.now - c.loop-i.i) c.loop-i.w (c.loop-i.i + 1) c.args.time (omega (arith, c.count-i-end.ensures, c.loop-i-test.true)))
 
 pub returns : goal.returns
-returns c = sym (expired-none _ _ _ _ c.loop-left-test.false) ∙ c.loop-left.invariant.2
+returns c = sym (expired-none _ _ _ _ (omega (arith, c.count-i-end.ensures, c.loop-i-test.false))) ∙ c.loop-i.invariant

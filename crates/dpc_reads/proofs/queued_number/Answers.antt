@@ -1,17 +1,16 @@
 use mathlib.Core.Path.{◌∙◌, sym}
+use Rattle.std.proofs.lemmas.Iterator.Adapters.{option_map_id}
+use Rattle.std.proofs.lemmas.Iterator.Consumers.{YieldsList-from_first, nth_from_yields_List}
+use Rattle.chains.specs.Chain.{first_of, members_of}
+use Rattle.chains.specs.Members.{members_left}
+use Rattle.dpcs.specs.Record.{queue_chain}
 use Rattle.dpc_reads.specs.Reads.{queued_number}
-use Rattle.dpc_reads.proofs.QueueLaws.{stepped-none, stepped-end, stepped-more}
+use Rattle.dpc_reads.proofs.QueueLaws.{stepped-get}
 use Rattle.dpc_reads.proofs.queued_number.Goals as goal
 
-pub loop-left-init : goal.loop-left-init
-unfolding queued_number
-loop-left-init c = cc
-
-pub returns-then-n-eq0 : goal.returns-then-n-eq0
-returns-then-n-eq0 c = sym (stepped-end c.loop-left.left _ _ _ c.if-n-eq0.true) ∙ c.loop-left.invariant
-
-pub loop-left-preserved : goal.loop-left-preserved
-loop-left-preserved c = cc (stepped-more c.loop-left.left c.args.w.now c.queue_chain-queue.result c.loop-left.n c.loop-left-test.true c.if-n-eq0.false)
-
 pub returns : goal.returns
-returns c = sym (stepped-none _ _ _ _ c.loop-left-test.false) ∙ c.loop-left.invariant
+unfolding queued_number members_of
+returns c =
+    sym (option_map_id c.nth.result)
+    ∙ nth_from_yields_List c.nth.result c.nth.new.self c.args.position c.nth.ensures.ran (YieldsList-from_first (λ x. x) members_left (members_of c.args.w.now (queue_chain c.args.w.now)) cc)
+    ∙ stepped-get c.args.w.now (queue_chain c.args.w.now) c.args.position 4096 (first_of c.args.w.now (queue_chain c.args.w.now)) c.requires

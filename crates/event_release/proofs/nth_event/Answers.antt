@@ -1,24 +1,23 @@
 use native.Mathlib.Omega.{arith}
-use mathlib.Core.Bool.{true, false}
-use mathlib.Core.Path.{◌≡◌, ◌∙◌, sym}
+use mathlib.Core.Path.{refl, sym, ◌∙◌}
+use Rattle.std.proofs.Common.{rules, tests}
+use Rattle.std.proofs.lemmas.Iterator.{YieldsList-from_range, YieldsList-from_map}
+use Rattle.std.proofs.lemmas.Iterator.Adapters.{option_map_id}
+use Rattle.std.proofs.lemmas.Iterator.Consumers.{nth_from_yields_List, YieldsList-at, YieldsList-from_filter}
 use Rattle.words.specs.Layout.{entry_at}
-use Rattle.objects.proofs.CountLaws.{count_most}
-use Rattle.event_release.specs.Release.{is_nth, nth_event}
-use Rattle.event_release.proofs.ReleaseLaws.{nth-none, nth-stop, nth-more}
-use borrow.Author.Rules.{rules}
+use Rattle.event_release.specs.Release.{is_event, nth_event}
+use Rattle.event_release.proofs.ReleaseLaws.{from_base, nth-events}
 use Rattle.event_release.proofs.nth_event.Goals as goal
 
-pub loop-left-init : goal.loop-left-init
-unfolding nth_event
-loop-left-init c = (omega (arith, count_most c.args.w.now, c.count-left.ensures), cc)
-
-pub returns-then-is_nth : goal.returns-then-is_nth
-returns-then-is_nth c = let e : is_nth c.args.w.now (entry_at c.objects_base-base.result c.loop-left.i) c.loop-left.before ≡ true = cc in
-    c.entry_at-at.ensures ∙ sym (nth-stop c.loop-left.left c.args.w.now c.objects_base-base.result c.loop-left.i c.loop-left.before c.loop-left-test.true e) ∙ c.loop-left.invariant.1
-
-pub loop-left-preserved : goal.loop-left-preserved
-loop-left-preserved c = let e : is_nth c.args.w.now (entry_at c.objects_base-base.result c.loop-left.i) c.loop-left.before ≡ false = cc in
-    (search rules, cc (nth-more c.loop-left.left c.args.w.now c.objects_base-base.result c.loop-left.i c.loop-left.before c.loop-left-test.true e))
-
 pub returns : goal.returns
-returns c = sym (nth-none _ _ _ _ _ c.loop-left-test.false) ∙ c.loop-left.invariant.1
+unfolding nth_event
+returns c =
+    sym (option_map_id _)
+    ∙ nth_from_yields_List c.nth.result c.nth.new.self c.args.position c.nth.ensures.ran
+    (YieldsList-from_filter _ (λ place. is_event c.args.w.now place)
+    (YieldsList-at c.filter.ensures.source
+    (YieldsList-from_map _ (λ i. entry_at c.objects_base-base.result i)
+    (YieldsList-at c.map.ensures.source (YieldsList-from_range 0 c.count.result c.count.result refl (omega arith))) c.map.ensures.closure (λ x r q k. search (rules, tests))))
+    c.filter.ensures.closure (λ x r q k. search (rules, tests)))
+    ∙ nth-events c.args.w.now c.objects_base-base.result (omega (arith, from_base c.args.w.now, c.objects_base-base.ensures)) c.count.result 0 c.args.position
+    ∙ search rules

@@ -1,6 +1,6 @@
-use mathlib.Core.Path.{sym, ◌∙◌}
-use Rattle.expiry_advance.proofs.AdvanceLaws.{none-refused, none-changed}
+use native.Mathlib.Omega.{arith}
+use Rattle.objects.proofs.CountLaws.{count_most}
 use Rattle.expiry_advance.proofs.expire_timers.Goals as goal
 
-pub returns-then-not-any_due : goal.returns-then-not-any_due
-returns-then-not-any_due c = (sym (none-refused c.args.w.now c.args.time (sym c.any_due.ensures ∙ c.if-not-any_due.true)), sym (none-changed c.args.w.now c.args.time (sym c.any_due.ensures ∙ c.if-not-any_due.true)))
+pub expire_within-requires-2 : goal.expire_within-requires-2
+expire_within-requires-2 c = (omega (arith, count_most c.args.w.now), omega arith)

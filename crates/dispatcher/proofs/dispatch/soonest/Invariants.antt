@@ -1,9 +1,6 @@
-use mathlib.Core.Path.{◌≡◌}
+use Rattle.std.proofs.Common.{◌≡◌, ◌-◌}
 use Rattle.dispatcher.specs.Dispatch.{soonest_in, soonest}
 use Rattle.dispatcher.proofs.dispatch.soonest.Given as goal
 
-abbrev pub invariant-loop-left : goal.invariant-loop-left
-invariant-loop-left l = soonest_in l.left l.w l.d l.at ≡ soonest l.w
-
-abbrev pub decreases-loop-left : goal.decreases-loop-left
-decreases-loop-left l = l.left
+abbrev pub invariant-loop : goal.invariant-loop
+invariant-loop l = soonest_in (4096 - l.counter) l.w l.seen l.at ≡ soonest l.w

@@ -1,16 +1,14 @@
 use native.Mathlib.Omega.{arith}
-use mathlib.Core.Path.{sym, ◌∙◌}
-use Rattle.objects.proofs.CountLaws.{count_most}
-use Rattle.dispatcher.specs.TimerDue.{soonest_timer}
-use Rattle.dispatcher.proofs.DispatchLaws.{timer-none, timer-more}
+use mathlib.Core.Path.{refl, ◌∙◌}
+use Rattle.std.proofs.Common.{rules, tests}
+use Rattle.words.specs.Layout.{entry_at}
+use Rattle.words.proofs.Walks.{fold_from_walk}
+use Rattle.dispatcher.specs.TimerDue.{due_with, soonest_timer_in, soonest_timer}
 use Rattle.dispatcher.proofs.timer_due.soonest_timer.Goals as goal
 
-pub loop-left-init : goal.loop-left-init
-unfolding soonest_timer
-loop-left-init c = (omega (arith, count_most c.args.w.now, c.count-left.ensures), cc)
-
-pub loop-left-preserved : goal.loop-left-preserved
-loop-left-preserved c = (omega (arith, c.loop-left.invariant.0, c.loop-left-test.true), cc (timer-more c.loop-left.left c.args.w.now c.loop-left.d c.objects_base-base.result c.loop-left.i c.loop-left-test.true))
-
 pub returns : goal.returns
-returns c = sym (timer-none c.loop-left.left c.args.w.now c.loop-left.d c.objects_base-base.result c.loop-left.i c.loop-left-test.false) ∙ c.loop-left.invariant.1
+unfolding soonest_timer soonest_timer_in
+returns c =
+    fold_from_walk (λ d i. due_with c.args.w.now d (entry_at c.objects_base-base.result i)) (λ m i d. soonest_timer_in m c.args.w.now d c.objects_base-base.result i)
+    (λ i d. refl) (λ m i d. refl) _ _ 0 _ c.count.result c.fold.ensures.ran refl (omega arith) (λ y x z q k. search (rules, tests))
+    ∙ search rules

@@ -1,10 +1,8 @@
-use Rattle.std.proofs.Common.{◌≡◌, ◌+◌, ◌≤◌, length}
+use Rattle.std.proofs.Common.{◌≡◌, ◌-◌, ◌≤◌, length}
+use Rattle.objects.specs.Objects.{object_count}
 use Rattle.expiry.specs.Due.{due_list}
 use Rattle.expiry.proofs.DueLaws.{Collected}
 use Rattle.expiry.proofs.due.collect.Given as goal
 
-abbrev pub invariant-loop-left : goal.invariant-loop-left
-invariant-loop-left l = (l.i + l.left ≤ 4096) × (l.k ≤ l.i) × (l.i + l.left ≤ length l.list) × (length l.list ≡ length l.initial.list) × Collected l.w l.base l.i l.time l.list l.k l.left (due_list l.w l.time)
-
-abbrev pub decreases-loop-left : goal.decreases-loop-left
-decreases-loop-left l = l.left
+abbrev pub invariant-loop-i : goal.invariant-loop-i
+invariant-loop-i l = (l.k ≤ l.i) × (length l.list ≡ length l.initial.list) × Collected l.w l.base l.i l.time l.list l.k (object_count l.w - l.i) (due_list l.w l.time)

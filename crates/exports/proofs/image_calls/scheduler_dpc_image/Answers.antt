@@ -1,4 +1,7 @@
-use mathlib.Core.Path.{◌∙◌}
+use mathlib.Core.Path.{ap, ◌∙◌}
+use Rattle.answers.proofs.Converted.{told-is}
+use Rattle.answers.specs.declared.Answer.{Answer}
+use Rattle.calls.specs.Images.{imaged}
 use Rattle.exports.specs.RecordCall.{given_image}
 use Rattle.exports.proofs.RecordLaws.{image-short, image-by}
 use Rattle.exports.proofs.image_calls.scheduler_dpc_image.Goals as goal
@@ -8,4 +11,4 @@ returns-then-out-lt4 c = image-short c.args.bytes.now c.args.out.now _ c.if-out-
 
 pub returns : goal.returns
 returns c = (λ i. given_image (c.put_answer.ensures.0 i) c.dpc_image-answer.new.out (c.put_answer.ensures.1 i))
-    ∙ image-by c.args.bytes.now c.args.out.now _ c.dpc_image-answer.result c.dpc_image-answer.new.out c.if-out-lt4.false c.dpc_image-answer.ensures
+    ∙ image-by c.args.bytes.now c.args.out.now _ c.into.result c.dpc_image-answer.new.out c.if-out-lt4.false (ap (λ (a : Answer). imaged a c.dpc_image-answer.new.out) (told-is _ _ _ c.into.ensures (λ x b e. e)) ∙ c.dpc_image-answer.ensures)

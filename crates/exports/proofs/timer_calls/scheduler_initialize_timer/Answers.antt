@@ -1,4 +1,5 @@
 use mathlib.Core.Path.{◌∙◌}
+use Rattle.answers.proofs.Converted.{told-outcome}
 use Rattle.model.specs.Call as call
 use Rattle.calls.specs.Called.{called}
 use Rattle.exports.specs.SchedulerAnswer.{given, truth}
@@ -10,5 +11,5 @@ returns-then-out-lt4 c = changed-short c.args.words.now c.args.out.now _ c.if-ou
 
 pub returns : goal.returns
 returns c = (λ i. given (c.put_answer.ensures.0 i) c.initialize_timer-answer.new.w (c.put_answer.ensures.1 i))
-    ∙ changed-by c.args.words.now c.args.out.now _ c.initialize_timer-answer.result c.initialize_timer-answer.new.w c.if-out-lt4.false
-    (c.initialize_timer-answer.ensures ∙ (λ i. called c.args.words.now (call.InitializeTimer c.args.address (c.architecture_of-a.ensures i) (c.backing_of-b.ensures i) (truth c.args.manual))))
+    ∙ changed-by c.args.words.now c.args.out.now _ c.into.result c.initialize_timer-answer.new.w c.if-out-lt4.false
+    (told-outcome _ _ _ _ _ c.into.ensures (λ x b e. e) (c.initialize_timer-answer.ensures ∙ (λ i. called c.args.words.now (call.InitializeTimer c.args.address (c.architecture_of-a.ensures i) (c.backing_of-b.ensures i) (truth c.args.manual)))))

@@ -1,5 +1,6 @@
 use mathlib.Core.Path.{◌∙◌}
 use mir.Facts.{to_z-of_z}
+use Rattle.answers.proofs.Converted.{told-outcome}
 use Rattle.model.specs.Call as call
 use Rattle.calls.specs.Called.{called}
 use Rattle.exports.specs.SchedulerAnswer.{given}
@@ -10,4 +11,4 @@ pub returns-then-out-lt4 : goal.returns-then-out-lt4
 returns-then-out-lt4 c = changed-short c.args.words.now c.args.out.now _ c.if-out-lt4.true
 
 pub returns : goal.returns
-returns c = (λ i. given (c.put_answer.ensures.0 i) c.set_timer_signed-answer.new.w (c.put_answer.ensures.1 i)) ∙ changed-by c.args.words.now c.args.out.now _ c.set_timer_signed-answer.result c.set_timer_signed-answer.new.w c.if-out-lt4.false (c.set_timer_signed-answer.ensures ∙ (λ i. called c.args.words.now (call.SetTimerSigned c.args.address ((to_z-of_z c.ranges.due) i) ((to_z-of_z c.ranges.period) i) c.args.dpc)))
+returns c = (λ i. given (c.put_answer.ensures.0 i) c.set_timer_signed-answer.new.w (c.put_answer.ensures.1 i)) ∙ changed-by c.args.words.now c.args.out.now _ c.into.result c.set_timer_signed-answer.new.w c.if-out-lt4.false (told-outcome _ _ _ _ _ c.into.ensures (λ x b e. e) (c.set_timer_signed-answer.ensures ∙ (λ i. called c.args.words.now (call.SetTimerSigned c.args.address ((to_z-of_z c.ranges.due) i) ((to_z-of_z c.ranges.period) i) c.args.dpc))))

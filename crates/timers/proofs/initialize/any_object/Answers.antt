@@ -1,24 +1,15 @@
 use native.Mathlib.Omega.{arith}
-use mathlib.Core.Bool.{true, false}
-use mathlib.Core.Path.{◌≡◌, ◌∙◌, sym}
+use mathlib.Core.Path.{refl, ◌∙◌}
+use Rattle.std.proofs.Common.{rules, tests}
 use Rattle.words.specs.Layout.{entry_at}
-use Rattle.objects.proofs.CountLaws.{count_most}
-use Rattle.timers.specs.Initialize.{any_object, object_overlaps}
-use Rattle.timers.proofs.WalkLaws.{some-none, some-stop, some_more}
-use borrow.Author.Rules.{rules}
+use Rattle.words.proofs.Walks.{any_from_walk}
+use Rattle.timers.specs.Record.{some_in}
+use Rattle.timers.specs.Initialize.{object_overlaps, any_object}
 use Rattle.timers.proofs.initialize.any_object.Goals as goal
 
-pub loop-left-init : goal.loop-left-init
-unfolding any_object
-loop-left-init c = (omega (arith, count_most c.args.w.now, c.count-left.ensures), cc)
-
-pub returns-then-object_overlaps : goal.returns-then-object_overlaps
-returns-then-object_overlaps c = let e : object_overlaps c.args.w.now (entry_at c.objects_base-base.result c.loop-left.i) c.args.address c.args.size ≡ true = cc in
-    sym (some-stop c.loop-left.left (λ place. object_overlaps c.args.w.now place c.args.address c.args.size) c.objects_base-base.result c.loop-left.i c.loop-left-test.true e) ∙ c.loop-left.invariant.1
-
-pub loop-left-preserved : goal.loop-left-preserved
-loop-left-preserved c = let e : object_overlaps c.args.w.now (entry_at c.objects_base-base.result c.loop-left.i) c.args.address c.args.size ≡ false = cc in
-    (search rules, sym (some_more c.loop-left.left (λ place. object_overlaps c.args.w.now place c.args.address c.args.size) c.objects_base-base.result c.loop-left.i c.loop-left-test.true e) ∙ c.loop-left.invariant.1)
-
 pub returns : goal.returns
-returns c = sym (some-none _ _ _ _ c.loop-left-test.false) ∙ c.loop-left.invariant.1
+unfolding any_object some_in
+returns c =
+    any_from_walk (λ i. object_overlaps c.args.w.now (entry_at c.objects_base-base.result i) c.args.address c.args.size) (λ m i. some_in m (λ place. object_overlaps c.args.w.now place c.args.address c.args.size) c.objects_base-base.result i)
+    (λ i. refl) (λ m i. refl) _ _ _ 0 _ c.count.result c.any.ensures.ran refl (omega arith) (λ x b q k. search (rules, tests))
+    ∙ search rules

@@ -1,24 +1,25 @@
 use native.Mathlib.Omega.{arith}
-use mathlib.Core.Bool.{true, false}
-use mathlib.Core.Path.{◌≡◌, ◌∙◌, sym}
+use mathlib.Core.Path.{◌∙◌, sym, ap}
+use Rattle.std.proofs.Common.{rules, tests}
+use Rattle.std.proofs.lemmas.Iterator.{YieldsList-from_range}
+use Rattle.std.proofs.lemmas.Iterator.Adapters.{option_map_id}
+use Rattle.std.proofs.lemmas.Iterator.Consumers.{nth_from_yields_List, YieldsList-from_filter}
+use Rattle.std.specs.Option.{option_map, unwrap_or}
 use Rattle.words.specs.Layout.{entry_at}
-use Rattle.objects.proofs.CountLaws.{count_most}
-use Rattle.timers.specs.Reads.{is_nth, nth_timer}
-use Rattle.timers.proofs.WalkLaws.{nth-none, nth-stop, nth-more}
-use borrow.Author.Rules.{rules}
+use Rattle.timers.specs.Record.{is_timer}
+use Rattle.timers.specs.Reads.{nth_timer}
+use Rattle.timers.proofs.PlaceLaws.{found-place}
+use Rattle.timers.proofs.WalkLaws.{nth-filter}
 use Rattle.timers.proofs.reads.nth_timer.Goals as goal
 
-pub loop-left-init : goal.loop-left-init
-unfolding nth_timer
-loop-left-init c = (omega (arith, count_most c.args.w.now, c.count-left.ensures), cc)
-
-pub returns-then-is_nth : goal.returns-then-is_nth
-returns-then-is_nth c = let e : is_nth c.args.w.now (entry_at c.objects_base-base.result c.loop-left.i) c.loop-left.before ≡ true = cc in
-    c.entry_at-at.ensures ∙ sym (nth-stop c.loop-left.left c.args.w.now c.objects_base-base.result c.loop-left.i c.loop-left.before c.loop-left-test.true e) ∙ c.loop-left.invariant.1
-
-pub loop-left-preserved : goal.loop-left-preserved
-loop-left-preserved c = let e : is_nth c.args.w.now (entry_at c.objects_base-base.result c.loop-left.i) c.loop-left.before ≡ false = cc in
-    (search rules, cc (nth-more c.loop-left.left c.args.w.now c.objects_base-base.result c.loop-left.i c.loop-left.before c.loop-left-test.true e))
-
 pub returns : goal.returns
-returns c = sym (nth-none _ _ _ _ _ c.loop-left-test.false) ∙ c.loop-left.invariant.1
+unfolding nth_timer
+returns c =
+    found-place c.args.w.now c.objects_base-base.result c.nth.result _ (nth_timer c.args.w.now c.args.position) c.objects_base-base.ensures
+    (ap (λ o. unwrap_or (option_map (entry_at c.objects_base-base.result) o) 0)
+    (sym (option_map_id c.nth.result)
+    ∙ nth_from_yields_List c.nth.result _ c.args.position c.nth.ensures.ran
+    (YieldsList-from_filter _ (λ i. is_timer c.args.w.now (entry_at c.objects_base-base.result i)) (YieldsList-from_range 0 c.count.result c.count.result (cc) (omega arith)) c.filter.ensures.closure (λ x b q k. search (rules, tests))))
+    ∙ nth-filter c.args.w.now c.objects_base-base.result c.count.result 0 c.args.position
+    ∙ search rules)
+    (search (rules, tests))

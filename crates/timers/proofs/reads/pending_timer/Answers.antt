@@ -1,24 +1,18 @@
 use native.Mathlib.Omega.{arith}
-use mathlib.Core.Bool.{true, false}
-use mathlib.Core.Path.{◌≡◌, ◌∙◌, sym}
+use mathlib.Core.Path.{◌∙◌, refl}
+use Rattle.std.proofs.Common.{rules, tests}
 use Rattle.words.specs.Layout.{entry_at}
-use Rattle.objects.proofs.CountLaws.{count_most}
+use Rattle.words.proofs.Walks.{found_from_walk}
+use Rattle.timers.specs.Record.{first_in}
 use Rattle.timers.specs.Reads.{is_pending, pending_timer}
-use Rattle.timers.proofs.WalkLaws.{first-none, first-stop, first_more}
-use borrow.Author.Rules.{rules}
+use Rattle.timers.proofs.PlaceLaws.{found-place}
 use Rattle.timers.proofs.reads.pending_timer.Goals as goal
 
-pub loop-left-init : goal.loop-left-init
-unfolding pending_timer
-loop-left-init c = (omega (arith, count_most c.args.w.now, c.count-left.ensures), cc)
-
-pub returns-then-is_pending : goal.returns-then-is_pending
-returns-then-is_pending c = let e : is_pending c.args.w.now (entry_at c.objects_base-base.result c.loop-left.i) ≡ true = cc in
-    c.entry_at-at.ensures ∙ sym (first-stop c.loop-left.left (is_pending c.args.w.now) c.objects_base-base.result c.loop-left.i c.loop-left-test.true e) ∙ c.loop-left.invariant.1
-
-pub loop-left-preserved : goal.loop-left-preserved
-loop-left-preserved c = let e : is_pending c.args.w.now (entry_at c.objects_base-base.result c.loop-left.i) ≡ false = cc in
-    (search rules, cc (first_more c.loop-left.left (is_pending c.args.w.now) c.objects_base-base.result c.loop-left.i c.loop-left-test.true e))
-
 pub returns : goal.returns
-returns c = sym (first-none _ _ _ _ c.loop-left-test.false) ∙ c.loop-left.invariant.1
+unfolding pending_timer first_in
+returns c =
+    found-place c.args.w.now c.objects_base-base.result c.find.result _ (pending_timer c.args.w.now) c.objects_base-base.ensures
+    (found_from_walk (λ i. is_pending c.args.w.now (entry_at c.objects_base-base.result i)) (λ m i. first_in m (is_pending c.args.w.now) c.objects_base-base.result i)
+    (entry_at c.objects_base-base.result) (λ _. 0) (λ i. refl) (λ m i. refl) _ _ c.find.result 0 _ c.count.result c.find.ensures.ran refl (omega arith) (λ x b q k. search (rules, tests))
+    ∙ search rules)
+    (search (rules, tests))

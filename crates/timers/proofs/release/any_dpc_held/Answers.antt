@@ -1,24 +1,15 @@
 use native.Mathlib.Omega.{arith}
-use mathlib.Core.Bool.{true, false}
-use mathlib.Core.Path.{◌≡◌, ◌∙◌, sym}
+use mathlib.Core.Path.{refl, ◌∙◌}
+use Rattle.std.proofs.Common.{rules, tests}
 use Rattle.words.specs.Layout.{entry_at}
-use Rattle.dpcs.proofs.RecordLaws.{count_most}
-use Rattle.timers.specs.Release.{any_dpc_held, dpc_held}
-use Rattle.timers.proofs.WalkLaws.{some-none, some-stop, some_more}
-use borrow.Author.Rules.{rules}
+use Rattle.words.proofs.Walks.{any_from_walk}
+use Rattle.timers.specs.Record.{some_in}
+use Rattle.timers.specs.Release.{dpc_held, any_dpc_held}
 use Rattle.timers.proofs.release.any_dpc_held.Goals as goal
 
-pub loop-left-init : goal.loop-left-init
-unfolding any_dpc_held
-loop-left-init c = (omega (arith, count_most c.args.w.now, c.count-left.ensures), cc)
-
-pub returns-then-dpc_held : goal.returns-then-dpc_held
-returns-then-dpc_held c = let e : dpc_held c.args.w.now (entry_at c.dpcs_base-base.result c.loop-left.i) c.args.address c.args.size ≡ true = cc in
-    sym (some-stop c.loop-left.left (λ place. dpc_held c.args.w.now place c.args.address c.args.size) c.dpcs_base-base.result c.loop-left.i c.loop-left-test.true e) ∙ c.loop-left.invariant.1
-
-pub loop-left-preserved : goal.loop-left-preserved
-loop-left-preserved c = let e : dpc_held c.args.w.now (entry_at c.dpcs_base-base.result c.loop-left.i) c.args.address c.args.size ≡ false = cc in
-    (search rules, sym (some_more c.loop-left.left (λ place. dpc_held c.args.w.now place c.args.address c.args.size) c.dpcs_base-base.result c.loop-left.i c.loop-left-test.true e) ∙ c.loop-left.invariant.1)
-
 pub returns : goal.returns
-returns c = sym (some-none _ _ _ _ c.loop-left-test.false) ∙ c.loop-left.invariant.1
+unfolding any_dpc_held some_in
+returns c =
+    any_from_walk (λ i. dpc_held c.args.w.now (entry_at c.dpcs_base-base.result i) c.args.address c.args.size) (λ m i. some_in m (λ place. dpc_held c.args.w.now place c.args.address c.args.size) c.dpcs_base-base.result i)
+    (λ i. refl) (λ m i. refl) _ _ _ 0 _ c.count.result c.any.ensures.ran refl (omega arith) (λ x b q k. search (rules, tests))
+    ∙ search rules

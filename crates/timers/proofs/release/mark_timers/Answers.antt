@@ -1,16 +1,26 @@
 use native.Mathlib.Omega.{arith}
-use Rattle.objects.proofs.CountLaws.{count_most}
-use Rattle.timers.specs.Release.{timers_marked, timer_marked}
-use Rattle.timers.proofs.WalkLaws.{each_none, each_more}
-use borrow.Author.Rules.{rules}
+use Prim.Native.Nat.{◌-◌}
+use mathlib.Core.Path.{◌≡◌, ◌∙◌, refl, sym}
+use Rattle.words.specs.Layout.{entry_at}
+use Rattle.words.proofs.Walks.{walk-more, walk-done}
+use Rattle.timers.specs.Record.{each_in}
+use Rattle.timers.specs.Release.{timer_marked, timers_marked}
 use Rattle.timers.proofs.release.mark_timers.Goals as goal
 
-pub loop-left-init : goal.loop-left-init
+pub loop-i-init : goal.loop-i-init
 unfolding timers_marked
-loop-left-init c = (omega (arith, count_most c.args.w.now, c.count-left.ensures), search rules, cc)
+loop-i-init c = let e : c.count-i-end.result - 0 ≡ c.count-i-end.result = omega arith in cc
 
-pub loop-left-preserved : goal.loop-left-preserved
-loop-left-preserved c = (search rules, search rules, cc (each_more c.loop-left.left (λ v place. timer_marked v place c.args.address c.args.size) c.loop-left.w c.objects_base-base.result c.loop-left.i c.loop-left-test.true))
+pub loop-i-preserved : goal.loop-i-preserved
+unfolding each_in
+loop-i-preserved c =
+    cc (walk-more (λ i v. timer_marked v (entry_at c.objects_base-base.result i) c.args.address c.args.size)
+    (λ m i v. each_in m (λ v place. timer_marked v place c.args.address c.args.size) v c.objects_base-base.result i)
+    (λ m i v. refl) c.count-i-end.result c.loop-i.i c.loop-i.w c.loop-i-test.true)
 
 pub returns : goal.returns
-returns c = cc (each_none c.loop-left.left (λ v place. timer_marked v place c.args.address c.args.size) c.loop-left.w c.objects_base-base.result c.loop-left.i c.loop-left-test.false)
+unfolding each_in
+returns c =
+    sym (walk-done (λ m i v. each_in m (λ v place. timer_marked v place c.args.address c.args.size) v c.objects_base-base.result i)
+    (λ i v. refl) c.count-i-end.result c.loop-i.i c.loop-i.w c.loop-i-test.false)
+    ∙ c.loop-i.invariant

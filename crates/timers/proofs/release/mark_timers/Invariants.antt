@@ -1,12 +1,8 @@
-use Prim.Native.Nat.{◌+◌, ◌≤◌}
+use Prim.Native.Nat.{◌-◌}
 use mathlib.Core.Path.{◌≡◌}
-use lib.ListN.{length}
 use Rattle.timers.specs.Record.{each_in}
-use Rattle.timers.specs.Release.{timers_marked, timer_marked}
+use Rattle.timers.specs.Release.{timer_marked, timers_marked}
 use Rattle.timers.proofs.release.mark_timers.Given as goal
 
-abbrev pub invariant-loop-left : goal.invariant-loop-left
-invariant-loop-left l = (l.i + l.left ≤ 4096) × (length l.w ≡ length l.initial.w) × (each_in l.left (λ v place. timer_marked v place l.address l.size) l.w l.base l.i ≡ timers_marked l.initial.w l.address l.size)
-
-abbrev pub decreases-loop-left : goal.decreases-loop-left
-decreases-loop-left l = l.left
+abbrev pub invariant-loop-i : goal.invariant-loop-i
+invariant-loop-i l = each_in (l.i-end - l.i) (λ v place. timer_marked v place l.address l.size) l.w l.base l.i ≡ timers_marked l.fn.w l.address l.size

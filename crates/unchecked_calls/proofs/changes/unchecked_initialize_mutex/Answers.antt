@@ -1,4 +1,5 @@
 use mathlib.Core.Path.{◌∙◌}
+use Rattle.answers.proofs.Converted.{told-outcome}
 use Rattle.exports.specs.SchedulerAnswer.{given}
 use Rattle.exports.proofs.AnswerLaws.{changed-short, changed-by}
 use Rattle.unchecked.specs.Unchecked.{unchecked}
@@ -9,4 +10,4 @@ returns-then-out-lt4 c = changed-short c.args.words.now c.args.out.now _ c.if-ou
 
 pub returns : goal.returns
 unfolding unchecked
-returns c = (λ i. given (c.put_answer.ensures.0 i) c.initialize_mutex-answer.new.w (c.put_answer.ensures.1 i)) ∙ changed-by c.args.words.now c.args.out.now _ c.initialize_mutex-answer.result c.initialize_mutex-answer.new.w c.if-out-lt4.false c.initialize_mutex-answer.ensures
+returns c = (λ i. given (c.put_answer.ensures.0 i) c.initialize_mutex-answer.new.w (c.put_answer.ensures.1 i)) ∙ changed-by c.args.words.now c.args.out.now _ c.into.result c.initialize_mutex-answer.new.w c.if-out-lt4.false (told-outcome _ _ _ _ _ c.into.ensures (λ x b e. e) c.initialize_mutex-answer.ensures)

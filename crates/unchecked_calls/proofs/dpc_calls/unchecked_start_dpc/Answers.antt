@@ -10,4 +10,4 @@ returns-then-out-lt24 c = started-short c.args.words.now c.args.out.now _ c.if-o
 pub returns : goal.returns
 unfolding unchecked
 returns c = (λ i. given (c.put_work_answer.ensures.0 i) c.start_dpc-answer.new.w (c.put_work_answer.ensures.1 i))
-    ∙ started-by c.args.words.now c.args.out.now _ c.start_dpc-answer.result c.start_dpc-answer.new.w c.if-out-lt24.false c.start_dpc-answer.ensures
+    ∙ started-by c.args.words.now c.args.out.now _ _ c.start_dpc-answer.new.w c.if-out-lt24.false c.start_dpc-answer.ensures

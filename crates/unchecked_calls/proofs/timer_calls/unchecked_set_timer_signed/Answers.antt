@@ -1,5 +1,6 @@
 use mathlib.Core.Path.{◌∙◌}
 use mir.Facts.{to_z-of_z}
+use Rattle.answers.proofs.Converted.{told-outcome}
 use Rattle.model.specs.Call as call
 use Rattle.exports.specs.SchedulerAnswer.{given}
 use Rattle.exports.proofs.AnswerLaws.{changed-short, changed-by}
@@ -11,4 +12,4 @@ returns-then-out-lt4 c = changed-short c.args.words.now c.args.out.now _ c.if-ou
 
 pub returns : goal.returns
 unfolding unchecked
-returns c = (λ i. given (c.put_answer.ensures.0 i) c.set_timer_signed-answer.new.w (c.put_answer.ensures.1 i)) ∙ changed-by c.args.words.now c.args.out.now _ c.set_timer_signed-answer.result c.set_timer_signed-answer.new.w c.if-out-lt4.false (c.set_timer_signed-answer.ensures ∙ (λ i. unchecked c.args.words.now (call.SetTimerSigned c.args.address ((to_z-of_z c.ranges.due) i) ((to_z-of_z c.ranges.period) i) c.args.dpc)))
+returns c = (λ i. given (c.put_answer.ensures.0 i) c.set_timer_signed-answer.new.w (c.put_answer.ensures.1 i)) ∙ changed-by c.args.words.now c.args.out.now _ c.into.result c.set_timer_signed-answer.new.w c.if-out-lt4.false (told-outcome _ _ _ _ _ c.into.ensures (λ x b e. e) (c.set_timer_signed-answer.ensures ∙ (λ i. unchecked c.args.words.now (call.SetTimerSigned c.args.address ((to_z-of_z c.ranges.due) i) ((to_z-of_z c.ranges.period) i) c.args.dpc))))

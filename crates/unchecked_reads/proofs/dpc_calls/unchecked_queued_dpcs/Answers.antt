@@ -1,4 +1,6 @@
-use mathlib.Core.Path.{◌∙◌}
+use mathlib.Core.Path.{refl, ◌∙◌}
+use Rattle.answers.proofs.Converted.{told-or-none}
+use Rattle.dpc_reads.specs.Reads.{count_or_none}
 use Rattle.exports.specs.SchedulerAnswer.{given}
 use Rattle.exports.proofs.RecordLaws.{read_short, read-by}
 use Rattle.unchecked.specs.Unchecked.{unchecked}
@@ -10,4 +12,4 @@ returns-then-out-lt4 c = read_short _ c.args.words.now c.args.out.now _ c.if-out
 pub returns : goal.returns
 unfolding unchecked
 returns c = (λ i. given (c.put_answer.ensures.0 i) c.args.words.now (c.put_answer.ensures.1 i))
-    ∙ read-by _ c.args.words.now c.args.out.now c.queued_dpcs-answer.result _ c.if-out-lt4.false c.queued_dpcs-answer.ensures
+    ∙ read-by _ c.args.words.now c.args.out.now c.into.result _ c.if-out-lt4.false (told-or-none count_or_none refl (λ x b e. e) _ _ c.into.ensures ∙ c.queued_dpcs-answer.ensures)

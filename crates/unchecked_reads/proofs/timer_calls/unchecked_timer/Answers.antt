@@ -1,6 +1,9 @@
-use mathlib.Core.Path.{◌∙◌}
+use mathlib.Core.Path.{refl, ◌∙◌}
+use Rattle.std.proofs.Common.{rules}
+use Rattle.timers.specs.Reads as reads
+use Rattle.timers.specs.TimerAnswer as answer
 use Rattle.exports.specs.SchedulerAnswer.{given}
-use Rattle.exports.proofs.RecordLaws.{read_short, read-by}
+use Rattle.exports.proofs.RecordLaws.{read_short, read-by, told-known}
 use Rattle.unchecked.specs.Unchecked.{unchecked}
 use Rattle.unchecked_reads.proofs.timer_calls.unchecked_timer.Goals as goal
 
@@ -10,4 +13,5 @@ returns-then-out-lt24 c = read_short _ c.args.words.now c.args.out.now _ c.if-ou
 pub returns : goal.returns
 unfolding unchecked
 returns c = (λ i. given (c.put_timer_answer.ensures.0 i) c.args.words.now (c.put_timer_answer.ensures.1 i))
-    ∙ read-by _ c.args.words.now c.args.out.now c.timer-answer.result _ c.if-out-lt24.false c.timer-answer.ensures
+    ∙ read-by _ c.args.words.now c.args.out.now _ _ c.if-out-lt24.false
+    (told-known reads.told answer.Refused reads.known (λ x. refl) (λ e. refl) (λ x y q. search rules) c.timer.result _ c.map-answer.ensures.cases ∙ c.timer.ensures)

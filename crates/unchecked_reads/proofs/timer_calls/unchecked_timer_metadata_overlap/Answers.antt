@@ -10,4 +10,4 @@ returns-then-out-lt4 c = read_short _ c.args.words.now c.args.out.now _ c.if-out
 pub returns : goal.returns
 unfolding unchecked
 returns c = (λ i. given (c.put_answer.ensures.0 i) c.args.words.now (c.put_answer.ensures.1 i))
-    ∙ read-by _ c.args.words.now c.args.out.now c.timer_metadata_overlap-answer.result _ c.if-out-lt4.false c.timer_metadata_overlap-answer.ensures
+    ∙ read-by _ c.args.words.now c.args.out.now c.into.result _ c.if-out-lt4.false (c.into.ensures ∙ c.timer_metadata_overlap-answer.ensures)

@@ -10,4 +10,4 @@ returns-then-out-lt24 c = read_short _ c.args.words.now c.args.out.now _ c.if-ou
 pub returns : goal.returns
 unfolding unchecked
 returns c = (λ i. given (c.put_timer_answer.ensures.0 i) c.args.words.now (c.put_timer_answer.ensures.1 i))
-    ∙ read-by _ c.args.words.now c.args.out.now c.timers_at-answer.result _ c.if-out-lt24.false c.timers_at-answer.ensures
+    ∙ read-by _ c.args.words.now c.args.out.now _ _ c.if-out-lt24.false c.timers_at-answer.ensures

@@ -1,0 +1,8 @@
+-- What a read of a DPC tells, in one type with the number of its refusal. The code answers it by a Result.
+use Rattle.std.specs.Prelude.{ℕ}
+use Rattle.images.specs.declared.Dpc as images
+
+pub data DpcAnswer : Type 0 where
+  Refused : ℕ → DpcAnswer
+  None : DpcAnswer
+  Dpc : images.Dpc → DpcAnswer

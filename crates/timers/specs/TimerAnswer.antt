@@ -1,0 +1,8 @@
+-- What a read of a timer tells, in one type with the number of its refusal. The code answers it by a Result.
+use Rattle.std.specs.Prelude.{ℕ}
+use Rattle.images.specs.declared.Timer as images
+
+pub data TimerAnswer : Type 0 where
+  Refused : ℕ → TimerAnswer
+  None : TimerAnswer
+  Timer : images.Timer → TimerAnswer
