@@ -27,7 +27,7 @@ fn expire(w: &mut [u64], id: u64, time: u64)
     ensures { w.new ≡ expired w.old id time }
 {
     if is_overdue(w, id, time) {
-        chains::remove(w, ready::waiters_chain(), id);
+        ready::waiters_chain().remove(w, id);
         wakes::make_ready(w, id, threads::TIMEOUT);
     }
 }

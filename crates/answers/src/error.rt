@@ -18,6 +18,7 @@ pub enum SchedulerError {
     // A listed mutex is the caller's own.
     OwnMutex,
     InvalidIrql,
+    // Another owner, one that is not alive, or an exit while owning.
     NotOwner,
     Exited,
     TimeGoesBack,

@@ -4,6 +4,7 @@
 pub mod error;
 pub mod told;
 
+// One type for all calls, in which a script's answers and the log's are told; a call's own answer is a Result or an Option.
 #[derive(Clone, Copy)]
 pub enum Answer {
     // The call is refused, by a number of document 01's table.
@@ -12,7 +13,7 @@ pub enum Answer {
     // There is none: no thread runs, no thread owns the mutex, nothing stands at the position.
     None,
     Thread(u64),
-    // What held before the call.
+    // A yes or no.
     Flag(bool),
     Count(u64),
     // A wait that was granted, with its index, one that timed out, and one that blocked.

@@ -14,7 +14,7 @@ impl From<()> for Answer {
     }
 }
 
-// What held before the call.
+// A yes or no: what held before, whether work was put in or taken out, or whether bytes overlap.
 impl From<bool> for Answer {
     ghost from_gives = { λ held a. a ≡ answer.Flag held };
 

@@ -7,10 +7,9 @@ ghost use Rattle.answers.specs.Errors.{refusal, answer_of};
 ghost use Rattle.answers.specs.Outcome.{outcome};
 ghost use Rattle.words.specs.Layout as at;
 ghost use Rattle.objects.specs.Objects.{place_of};
-ghost use Rattle.arming.specs.Arm.{largest, named_elsewhere, new_refusal, former_busy, set_refusal, named, unnamed, setting_of, setting_put, armed, timer_set, same_word, own_origin, own_work, own_queued, withdrawn_own, disarmed, timer_cancelled, timer_set_signed};
+ghost use Rattle.arming.specs.Arm.{largest, named_elsewhere, new_refusal, set_refusal, named, unnamed, setting_of, setting_put, armed, timer_set, own_origin, own_work, own_queued, withdrawn_own, disarmed, timer_cancelled, timer_set_signed};
 
 use answers::error::SchedulerError;
-use objects::found;
 use timers::record;
 use words::layout;
 
@@ -43,7 +42,7 @@ fn check_new(w: &[u64], address: u64, dpc: u64) -> Result<(), SchedulerError>
     if dpc == 0 {
         return Ok(());
     }
-    let at = found::dpc(w, dpc).ok_or(SchedulerError::Unknown)?;
+    let at = objects::find_dpc(w, dpc).ok_or(SchedulerError::Unknown)?;
     if is_named_elsewhere(w, at, address) {
         return Err(SchedulerError::Named);
     }
@@ -53,17 +52,8 @@ fn check_new(w: &[u64], address: u64, dpc: u64) -> Result<(), SchedulerError>
     Ok(())
 }
 
-// Whether the timer at place `at`, which is no place where it is 0, had a DPC that is busy.
-#[tactic(auto, unfolding(crate::specs::Arm::former_busy))]
-fn is_former_busy(w: &[u64], at: usize) -> bool
-    ensures { result ≡ former_busy w.now at }
-{
-    let dpc = words::get_in(w, at, layout::TIMER_DPC);
-    at != 0 && dpc != 0 && record::is_busy(w, dpc)
-}
-
 // Where the timer stands.
-#[tactic(auto, unfolding(crate::specs::Arm::set_refusal))]
+#[tactic(auto, unfolding(crate::specs::Arm::set_refusal, crate::specs::Arm::former_busy))]
 fn check_set(w: &[u64], address: u64, period: i32, dpc: u64) -> Result<usize, SchedulerError>
     ensures refused { refusal result ≡ set_refusal w.now address period dpc }
     ensures place { IfOk result (λ place. place ≡ place_of w.now 2 address) }
@@ -73,12 +63,10 @@ fn check_set(w: &[u64], address: u64, period: i32, dpc: u64) -> Result<usize, Sc
         return Err(SchedulerError::NegativePeriod);
     }
     check_new(w, address, dpc)?;
-    let at = objects::place_of(w, objects::TIMER, address);
-    if is_former_busy(w, at) {
+    let at = objects::place_of(w, objects::TIMER, address).ok_or(SchedulerError::Unknown)?;
+    let former = words::get_in(w, at, layout::TIMER_DPC);
+    if former != 0 && record::is_busy(w, former) {
         return Err(SchedulerError::Busy);
-    }
-    if at == 0 {
-        return Err(SchedulerError::Unknown);
     }
     if words::get_in(w, at, layout::ARM) == u64::MAX {
         return Err(SchedulerError::CountOverflow);
@@ -94,7 +82,7 @@ fn name(w: &mut [u64], dpc: u64, holder: u64)
     if dpc == 0 {
         return;
     }
-    if let Some(at) = found::dpc(w, dpc) {
+    if let Some(at) = objects::find_dpc(w, dpc) {
         words::put_in(w, at, layout::NAMED_BY, holder);
     }
 }
@@ -169,28 +157,15 @@ pub fn set_timer(
 
 // ---- cancel_timer
 
-// Whether word `k` behind place `a` and word `m` behind place `b` are the same.
-#[tactic(auto, unfolding(crate::specs::Arm::same_word))]
-fn is_same(w: &[u64], a: usize, k: usize, b: usize, m: usize) -> bool
-    ensures { result ≡ same_word w.now (a + k) (b + m) }
-{
-    words::get_in(w, a, k) == words::get_in(w, b, m)
-}
-
 // Whether the work of the DPC at place `place` bears the key, the arm and the initialization of the timer at place `at`.
-#[tactic(auto, unfolding(crate::specs::Arm::own_origin))]
+#[tactic(auto, unfolding(crate::specs::Arm::own_origin, crate::specs::Arm::same_word))]
 fn is_own_origin(w: &[u64], at: usize, place: usize) -> bool
     ensures { result ≡ own_origin w.now at place }
 {
-    is_same(w, place, layout::ORIGIN_TIMER, at, layout::KEY)
-        && is_same(w, place, layout::ORIGIN_ARM, at, layout::ARM)
-        && is_same(
-            w,
-            place,
-            layout::ORIGIN_INITIALIZATION,
-            at,
-            layout::INITIALIZATION,
-        )
+    words::get_in(w, place, layout::ORIGIN_TIMER) == words::get_in(w, at, layout::KEY)
+        && words::get_in(w, place, layout::ORIGIN_ARM) == words::get_in(w, at, layout::ARM)
+        && words::get_in(w, place, layout::ORIGIN_INITIALIZATION)
+            == words::get_in(w, at, layout::INITIALIZATION)
 }
 
 // Whether the work of the DPC at place `place` is queued and came from the timer at place `at`.
@@ -212,7 +187,7 @@ fn is_own_queued(w: &[u64], at: usize) -> bool
     record::is_inserted(w, at)
         && words::get(w, layout::POLICY) != 0
         && dpc != 0
-        && found::dpc(w, dpc).is_some_and(|place| is_own_work(w, at, place))
+        && objects::find_dpc(w, dpc).is_some_and(|place| is_own_work(w, at, place))
 }
 
 // The work of the DPC of the timer at place `at` taken out of the queue, where it is the timer's own.
@@ -221,7 +196,7 @@ fn withdraw_own(w: &mut [u64], at: usize, own: bool)
     ensures { w.new ≡ withdrawn_own w.old at own }
 {
     if own {
-        let n = dpcs::record::number_of(w, words::get_in(w, at, layout::TIMER_DPC));
+        let n = dpcs::record::number_of(w, words::get_in(w, at, layout::TIMER_DPC)).unwrap_or(0);
         dpc_queue::withdraw(w, n);
     }
 }
@@ -240,7 +215,7 @@ fn disarm(w: &mut [u64], at: usize)
 pub fn cancel_timer(w: &mut [u64], address: u64) -> Result<bool, SchedulerError>
     ensures { outcome (answer_of answer.Flag result) w.new ≡ timer_cancelled w.old address }
 {
-    let at = found::object(w, objects::TIMER, address).ok_or(SchedulerError::Unknown)?;
+    let at = objects::place_of(w, objects::TIMER, address).ok_or(SchedulerError::Unknown)?;
     let inserted = record::is_inserted(w, at);
     let own = is_own_queued(w, at);
     withdraw_own(w, at, own);

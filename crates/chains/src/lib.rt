@@ -18,34 +18,6 @@ pub struct Chain {
 // No walk along a chain passes more records than this.
 pub const MOST: usize = 4096;
 
-// Where the number of the record after `before` stands; after 0 comes the first. No chain has a record past 4096.
-#[tactic(auto, unfolding(crate::specs::Chain::link_at), using(crate::proofs::ChainLaws::span))]
-pub fn link_at(c: Chain, before: u64) -> usize
-    ensures { result ≡ link_at c before }
-{
-    if before == 0 {
-        return c.first as usize;
-    }
-    if before <= 4096 {
-        return (c.link as usize) + (c.stride as usize) * (before as usize);
-    }
-    c.first as usize
-}
-
-#[tactic(auto, unfolding(crate::specs::Chain::first_of))]
-pub fn first_of(w: &[u64], c: Chain) -> u64
-    ensures { result ≡ first_of w.now c }
-{
-    words::get(w, c.first as usize)
-}
-
-#[tactic(auto, unfolding(crate::specs::Chain::next_of))]
-pub fn next_of(w: &[u64], c: Chain, n: u64) -> u64
-    ensures { result ≡ next_of w.now c n }
-{
-    words::get(w, link_at(c, n))
-}
-
 // The numbers of the records of a chain, in its order; no more than 4096 come, so that a chain that runs in a ring ends too.
 #[derive(Clone, Drop)]
 pub struct Members<'a> {
@@ -71,13 +43,41 @@ impl<'a> Iterator for Members<'a> {
         }
         self.left = self.left.checked_sub(1)?;
         let n = self.at;
-        self.at = next_of(self.w, self.chain, n);
+        self.at = self.chain.after(self.w, n);
         Some(n)
     }
 }
 
 impl Chain {
     ghost use Rattle.chains.specs.Members.{members_left};
+
+    // Where the number of the record after `before` stands; after 0 comes the first. No chain has a record past 4096.
+    #[tactic(auto, unfolding(crate::specs::Chain::link_at), using(crate::proofs::ChainLaws::span))]
+    pub fn link_at(self, before: u64) -> usize
+        ensures { result ≡ link_at self before }
+    {
+        if before == 0 {
+            return self.first as usize;
+        }
+        if before <= 4096 {
+            return (self.link as usize) + (self.stride as usize) * (before as usize);
+        }
+        self.first as usize
+    }
+
+    #[tactic(auto, unfolding(crate::specs::Chain::first_of))]
+    pub fn front(self, w: &[u64]) -> u64
+        ensures { result ≡ first_of w.now self }
+    {
+        words::get(w, self.first as usize)
+    }
+
+    #[tactic(auto, unfolding(crate::specs::Chain::next_of))]
+    pub fn after(self, w: &[u64], n: u64) -> u64
+        ensures { result ≡ next_of w.now self n }
+    {
+        words::get(w, self.link_at(n))
+    }
 
     #[tactic(auto, unfolding(crate::specs::Chain::members_of))]
     pub fn members(self, w: &[u64]) -> Members<'_>
@@ -86,57 +86,57 @@ impl Chain {
         Members {
             w,
             chain: self,
-            at: first_of(w, self),
+            at: self.front(w),
             left: MOST,
         }
     }
-}
 
-// Record `n`, in no chain, made the last.
-#[tactic(auto, unfolding(crate::specs::Chain::pushed))]
-pub fn push(w: &mut [u64], c: Chain, n: u64)
-    ensures { w.new ≡ pushed w.old c n }
-{
-    let last = words::get(w, c.last as usize);
-    words::put(w, link_at(c, n), 0);
-    words::put(w, link_at(c, last), n);
-    words::put(w, c.last as usize, n);
-}
-
-// Record `n`, which comes after `before`, taken out.
-#[tactic(auto, unfolding(crate::specs::Chain::unlinked))]
-pub fn unlink(w: &mut [u64], c: Chain, before: u64, n: u64)
-    ensures { w.new ≡ unlinked w.old c before n }
-{
-    let after = next_of(w, c, n);
-    words::put(w, link_at(c, before), after);
-    if after == 0 {
-        words::put(w, c.last as usize, before);
+    // Record `n`, in no chain, made the last.
+    #[tactic(auto, unfolding(crate::specs::Chain::pushed))]
+    pub fn push(self, w: &mut [u64], n: u64)
+        ensures { w.new ≡ pushed w.old self n }
+    {
+        let last = words::get(w, self.last as usize);
+        words::put(w, self.link_at(n), 0);
+        words::put(w, self.link_at(last), n);
+        words::put(w, self.last as usize, n);
     }
-}
 
-// The record before `n`, or 0 where `n` is the first. Not by `members`, since where `n` does not stand in the chain the search goes round
-// by the first.
-pub fn find_before(w: &[u64], c: Chain, n: u64) -> u64
-    ensures { result ≡ find_before w.now c n }
-{
-    let mut before: u64 = 0;
-    let mut at = first_of(w, c);
-    for _ in 0..MOST {
-        if at == n {
-            return before;
+    // Record `n`, which comes after `before`, taken out.
+    #[tactic(auto, unfolding(crate::specs::Chain::unlinked))]
+    pub fn unlink(self, w: &mut [u64], before: u64, n: u64)
+        ensures { w.new ≡ unlinked w.old self before n }
+    {
+        let after = self.after(w, n);
+        words::put(w, self.link_at(before), after);
+        if after == 0 {
+            words::put(w, self.last as usize, before);
         }
-        before = at;
-        at = next_of(w, c, at);
     }
-    before
-}
 
-// Record `n`, which stands in the chain, taken out.
-#[tactic(auto, unfolding(crate::specs::Chain::removed))]
-pub fn remove(w: &mut [u64], c: Chain, n: u64)
-    ensures { w.new ≡ removed w.old c n }
-{
-    let before = find_before(w, c, n);
-    unlink(w, c, before, n);
+    // The record before `n`, or 0 where `n` is the first: no `Option`, since 0 is a place in the chain, that before the first. Not by `members`,
+    // since where `n` does not stand in the chain the search goes round by the first.
+    pub fn find_before(self, w: &[u64], n: u64) -> u64
+        ensures { result ≡ find_before w.now self n }
+    {
+        let mut before: u64 = 0;
+        let mut at = self.front(w);
+        for _ in 0..MOST {
+            if at == n {
+                return before;
+            }
+            before = at;
+            at = self.after(w, at);
+        }
+        before
+    }
+
+    // Record `n`, which stands in the chain, taken out.
+    #[tactic(auto, unfolding(crate::specs::Chain::removed))]
+    pub fn remove(self, w: &mut [u64], n: u64)
+        ensures { w.new ≡ removed w.old self n }
+    {
+        let before = self.find_before(w, n);
+        self.unlink(w, before, n);
+    }
 }

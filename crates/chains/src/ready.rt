@@ -1,5 +1,5 @@
 // The chains of threads: a ready queue for each priority, with the ready word beside them, and the waiters.
-ghost use Rattle.std.specs.Prelude.{◌≡◌};
+ghost use Rattle.std.specs.Prelude.{◌≡◌, cond};
 ghost use Rattle.chains.specs.Ready.{ready_chain, waiters_chain, marked, unmarked, placed_last, unplaced};
 
 use super::Chain;
@@ -39,27 +39,20 @@ pub fn waiters_chain() -> Chain
     }
 }
 
-// The bit of priority `p` set where its queue has no last thread.
-#[tactic(auto, unfolding(crate::specs::Ready::marked))]
-fn mark(w: &mut [u64], p: u64)
-    ensures { w.new ≡ marked w.old p }
+// The bit of priority `p` set, or cleared, where its queue has no last thread.
+#[tactic(auto, unfolding(crate::specs::Ready::marked, crate::specs::Ready::unmarked))]
+fn mark(w: &mut [u64], p: u64, ready: bool)
+    ensures { w.new ≡ cond ready (marked w.old p) (unmarked w.old p) }
 {
     let c = ready_chain(p);
     if words::get(w, c.last as usize) == 0 {
         let m = words::get(w, layout::READY);
-        words::put(w, layout::READY, words::with_bit(m, p));
-    }
-}
-
-// The bit of priority `p` cleared where its queue has no last thread.
-#[tactic(auto, unfolding(crate::specs::Ready::unmarked))]
-fn unmark(w: &mut [u64], p: u64)
-    ensures { w.new ≡ unmarked w.old p }
-{
-    let c = ready_chain(p);
-    if words::get(w, c.last as usize) == 0 {
-        let m = words::get(w, layout::READY);
-        words::put(w, layout::READY, words::without_bit(m, p));
+        let m = if ready {
+            words::with_bit(m, p)
+        } else {
+            words::without_bit(m, p)
+        };
+        words::put(w, layout::READY, m);
     }
 }
 
@@ -68,8 +61,8 @@ fn unmark(w: &mut [u64], p: u64)
 pub fn place(w: &mut [u64], p: u64, id: u64)
     ensures { w.new ≡ placed_last w.old p id }
 {
-    mark(w, p);
-    super::push(w, ready_chain(p), id);
+    mark(w, p, true);
+    ready_chain(p).push(w, id);
 }
 
 // Thread `id`, which stands in the queue of priority `p`, taken out.
@@ -77,6 +70,6 @@ pub fn place(w: &mut [u64], p: u64, id: u64)
 pub fn unplace(w: &mut [u64], p: u64, id: u64)
     ensures { w.new ≡ unplaced w.old p id }
 {
-    super::remove(w, ready_chain(p), id);
-    unmark(w, p);
+    ready_chain(p).remove(w, id);
+    mark(w, p, false);
 }

@@ -109,6 +109,7 @@ pub fn all(text: &[u8]) -> Tally {
         differences: 0,
     };
     let mut at = 0;
+    // A step takes as many bytes as its numbers have.
     while at < text.len() {
         let next = read_step(text, at, step);
         // Never so: a step takes a byte or more. The test shows that the loop ends.

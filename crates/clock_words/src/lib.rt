@@ -69,6 +69,7 @@ fn store(w: &mut [u64], c: GuestClock)
     words::put(w, 6, countdown);
 }
 
+// 0 or the number, as C takes it.
 fn refusal_number(answer: Result<(), ClockError>) -> u64
     ensures { result ≡ refusal_number answer }
 {

@@ -1,7 +1,7 @@
 -- What a read answers, and what a command that a match leaves over asks of the scheduler's words.
 use mathlib.Core.Path.{◌≡◌, refl, ap, ◌∙◌}
 use mathlib.Core.List.{List}
-use Rattle.std.specs.Prelude.{Some, Result}
+use Rattle.std.specs.Prelude.{Option, Some, None, Result, is_some, unwrap_or}
 use Prim.Native.Nat.{ℕ}
 use mathlib.Core.Bool.{Bool}
 use lib.IntN.{ℤ}
@@ -15,7 +15,13 @@ use Rattle.answers.proofs.Converted.{told-is}
 use Rattle.answers.specs.Outcome.{outcome}
 use Rattle.script_lex.specs.declared.command.Command.{Command}
 use Rattle.script_lex.specs.declared.command.Command.TheVariants as command
-use Rattle.commands.specs.Commands.{asked, on_words}
+use Rattle.calls.specs.Called.{optional}
+use Rattle.commands.specs.Commands.{argument, asked, on_words}
+
+-- a number that may be absent, as the code hands it on
+pub handed-on : (o : Option ℕ) → optional (is_some o) (unwrap_or o 0) ≡ argument o
+handed-on None = refl
+handed-on (Some n) = refl
 
 -- a read leaves the words
 pub told-read : {A : Type 0} {R : A → Answer → Type 0} (f : A → Answer) (r : Result A SchedulerError) (a b : Answer) (w : List ℕ)
@@ -26,14 +32,14 @@ told-read f r a b w t h e = ap (λ (x : Answer). outcome x w) (told-is f r a t h
 pub record NoWords (c : Command) : Type 0 where
   pub event : (key : ℕ) (manual signaled : Bool) → c ≡ command.Event key manual signaled → ⊥
   pub create : (p : ℕ) → c ≡ command.Create p → ⊥
-  pub waits : (all timed : Bool) (deadline irql count : ℕ) → c ≡ command.Wait all timed deadline irql count → ⊥
+  pub waits : (all : Bool) (deadline : Option ℕ) (irql count : ℕ) → c ≡ command.Wait all deadline irql count → ⊥
   pub set_event : (key : ℕ) → c ≡ command.Set key → ⊥
   pub yields : c ≡ command.Yield → ⊥
   pub current : c ≡ command.Current → ⊥
   pub require_event_release : (base size layout : ℕ) → c ≡ command.RequireEventRelease base size layout → ⊥
   pub retire_event_backing : (base size layout : ℕ) → c ≡ command.RetireEventBacking base size layout → ⊥
   pub mutex_owner : (key : ℕ) → c ≡ command.MutexOwner key → ⊥
-  pub adopt_mutex : (key : ℕ) (owned : Bool) (owner : ℕ) → c ≡ command.AdoptMutex key owned owner → ⊥
+  pub adopt_mutex : (key : ℕ) (owner : Option ℕ) → c ≡ command.AdoptMutex key owner → ⊥
   pub mutex_waiters : (key : ℕ) → c ≡ command.MutexWaiters key → ⊥
   pub priority : (id priority : ℕ) → c ≡ command.Priority id priority → ⊥
   pub initialize_mutex : (key : ℕ) → c ≡ command.InitializeMutex key → ⊥
@@ -65,7 +71,7 @@ unfolding asked on_words
 no_words w list (command.Open p) q = refl
 no_words w list (command.Event key manual signaled) q = absurd (q.event key manual signaled refl)
 no_words w list (command.Create p) q = absurd (q.create p refl)
-no_words w list (command.Wait all timed deadline irql count) q = absurd (q.waits all timed deadline irql count refl)
+no_words w list (command.Wait all deadline irql count) q = absurd (q.waits all deadline irql count refl)
 no_words w list command.Dispatch q = refl
 no_words w list (command.Set key) q = absurd (q.set_event key refl)
 no_words w list command.Yield q = absurd (q.yields refl)
@@ -73,7 +79,7 @@ no_words w list command.Current q = absurd (q.current refl)
 no_words w list (command.RequireEventRelease base size layout) q = absurd (q.require_event_release base size layout refl)
 no_words w list (command.RetireEventBacking base size layout) q = absurd (q.retire_event_backing base size layout refl)
 no_words w list (command.MutexOwner key) q = absurd (q.mutex_owner key refl)
-no_words w list (command.AdoptMutex key owned owner) q = absurd (q.adopt_mutex key owned owner refl)
+no_words w list (command.AdoptMutex key owner) q = absurd (q.adopt_mutex key owner refl)
 no_words w list (command.MutexWaiters key) q = absurd (q.mutex_waiters key refl)
 no_words w list (command.Priority id priority) q = absurd (q.priority id priority refl)
 no_words w list (command.InitializeMutex key) q = absurd (q.initialize_mutex key refl)

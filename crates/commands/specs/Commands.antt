@@ -1,6 +1,7 @@
 -- Which call a command of a script makes, and what it does to the scheduler's words.
 use Rattle.std.specs.Prelude.{Bool, cond, List, ℕ, ltb, length, take, Option, Some, None}
 use Rattle.std.specs.Prelude as std
+use Rattle.std.proofs.Math.Option.{Option as Argument, some, none}
 use Rattle.answers.specs.declared.Answer.{Answer}
 use Rattle.answers.specs.declared.Answer.TheVariants as answer
 use Rattle.answers.specs.Outcome.{Outcome, outcome}
@@ -17,7 +18,7 @@ use Rattle.script_print.specs.Print.{bare_answer}
 use Rattle.model.specs.Call.{Call}
 use Rattle.model.specs.Call as call
 use Rattle.calls.specs.Guard as kind
-use Rattle.calls.specs.Called.{Reading, tells, images, Meaning, opens, acts, starts, dispatches, reads, meaning, ReadResult, Result, called, optional}
+use Rattle.calls.specs.Called.{Reading, tells, images, Meaning, opens, acts, starts, dispatches, reads, meaning, ReadResult, Result, called}
 
 -- ---- which call a command makes
 
@@ -67,9 +68,14 @@ pub data Asked : Type 0 where
   moves : (GuestClock → clock.Outcome) → Asked  -- a call that may change the clock
   asks : (GuestClock → std.Result ℕ ClockError) → Asked  -- one that only reads it
 
+-- a number that may be absent, as a call has it
+abbrev pub argument : Option ℕ → Argument ℕ
+argument None = none
+argument (Some n) = some n
+
 -- the first `count` numbers of the list are the kinds and keys
-abbrev pub waiting : List ℕ → Bool → Bool → ℕ → ℕ → ℕ → Asked
-waiting list all timed deadline irql count = cond (ltb (length list) count) nothing (calls (call.Wait (take count list) all (optional timed deadline) irql) tt)
+abbrev pub waiting : List ℕ → Bool → Option ℕ → ℕ → ℕ → Asked
+waiting list all deadline irql count = cond (ltb (length list) count) nothing (calls (call.Wait (take count list) all (argument deadline) irql) tt)
 
 -- the call of each command; `current` and `mutex_owner` print a bare number
 unfoldable pub asked : List ℕ → Option Command → Asked
@@ -77,7 +83,7 @@ asked list None = nothing
 asked list (Some (command.Open p)) = begins p
 asked list (Some (command.Event key manual signaled)) = calls (call.InitializeEvent key manual signaled) tt
 asked list (Some (command.Create p)) = calls (call.CreateThread p) tt
-asked list (Some (command.Wait all timed deadline irql count)) = waiting list all timed deadline irql count
+asked list (Some (command.Wait all deadline irql count)) = waiting list all deadline irql count
 asked list (Some command.Dispatch) = dispatching
 asked list (Some (command.Set key)) = calls (call.SetEvent key) tt
 asked list (Some command.Yield) = calls call.YieldCurrent tt
@@ -85,7 +91,7 @@ asked list (Some command.Current) = bares (call.Reads call.Current) tt
 asked list (Some (command.RequireEventRelease base size layout)) = calls (call.Reads (call.RequireEventRelease base size layout)) tt
 asked list (Some (command.RetireEventBacking base size layout)) = calls (call.RetireEventBacking base size layout) tt
 asked list (Some (command.MutexOwner key)) = bares (call.Reads (call.MutexOwner key)) tt
-asked list (Some (command.AdoptMutex key owned owner)) = calls (call.AdoptMutex key (optional owned owner)) tt
+asked list (Some (command.AdoptMutex key owner)) = calls (call.AdoptMutex key (argument owner)) tt
 asked list (Some (command.MutexWaiters key)) = calls (call.Reads (call.MutexWaiters key)) tt
 asked list (Some (command.Priority id priority)) = calls (call.Priority id priority) tt
 asked list (Some (command.InitializeMutex key)) = calls (call.InitializeMutex key) tt
@@ -142,5 +148,5 @@ on_words w (moves f) = outcome (answer.Refused 28) w
 on_words w (asks f) = outcome (answer.Refused 28) w
 
 -- a wait
-unfoldable pub waited : List ℕ → List ℕ → Bool → Bool → ℕ → ℕ → ℕ → Outcome
-waited w list all timed deadline irql count = on_words w (waiting list all timed deadline irql count)
+unfoldable pub waited : List ℕ → List ℕ → Bool → Option ℕ → ℕ → ℕ → Outcome
+waited w list all deadline irql count = on_words w (waiting list all deadline irql count)

@@ -29,17 +29,16 @@ fn wait(
     w: &mut [u64],
     list: &[u64],
     all: bool,
-    timed: bool,
-    deadline: u64,
+    deadline: Option<u64>,
     irql: u8,
     count: usize,
 ) -> Answer
-    ensures { outcome result w.new ≡ spec.waited w.old list.now all timed deadline irql count }
+    ensures { outcome result w.new ≡ spec.waited w.old list.now all deadline irql count }
 {
     if list.len() < count {
         return Answer::Refused(28);
     }
-    changes::wait(w, &list[..count], all, timed, deadline, irql).into()
+    changes::wait(w, &list[..count], all, deadline, irql).into()
 }
 
 // The commands on the scheduler's words, but for a dispatch; another is none of them.
@@ -55,11 +54,10 @@ pub fn on_words(w: &mut [u64], list: &[u64], c: Command) -> Answer
         Command::Create(p) => changes::create_thread(w, p).into(),
         Command::Wait {
             all,
-            timed,
             deadline,
             irql,
             count,
-        } => wait(w, list, all, timed, deadline, irql, count),
+        } => wait(w, list, all, deadline, irql, count),
         Command::Set(key) => changes::set_event(w, key).into(),
         Command::Yield => changes::yield_current(w).into(),
         Command::Current => bare(reads::current(w).into()),
@@ -70,9 +68,7 @@ pub fn on_words(w: &mut [u64], list: &[u64], c: Command) -> Answer
             w, base, size, layout,
         ).into(),
         Command::MutexOwner(key) => bare(reads::mutex_owner(w, key).into()),
-        Command::AdoptMutex { key, owned, owner } => changes::adopt_mutex(
-            w, key, owned, owner,
-        ).into(),
+        Command::AdoptMutex { key, owner } => changes::adopt_mutex(w, key, owner).into(),
         Command::MutexWaiters(key) => reads::mutex_waiters(w, key).into(),
         Command::Priority { id, priority } => changes::priority(w, id, priority).into(),
         Command::InitializeMutex(key) => changes::initialize_mutex(w, key).into(),

@@ -5,29 +5,19 @@ use native.Mathlib.Omega.{arith}
 use mathlib.Core.List.{List}
 use mathlib.Core.Bool.{Bool, cond, true, false}
 use mathlib.Core.Path.{◌≡◌, refl}
-use borrow.Author.Tests.{eq-eqb, ne_eqb}
-use Rattle.chains.specs.Chain.{next_of}
+use Rattle.std.specs.List.{fold}
+use Rattle.chains.specs.Chain.{first_of, members_of}
 use Rattle.chains.specs.Ready.{waiters_chain}
-use Rattle.dispatcher.specs.Dispatch.{due_after, soonest_in, is_waiting, noted, noted_to, listed_in, listed_to_in}
+use Rattle.chains.proofs.WalkLaws.{fold-members}
+use Rattle.dispatcher.specs.Dispatch.{no_due, due_after, soonest_in, soonest, is_waiting, noted, noted_to, listed_in, listed_to_in}
 
 less_one : (k : ℕ) → suc k - 1 ≡ k
 less_one k = omega arith
 
-pub soonest-none : (k : ℕ) (w : List ℕ) (d : Option ℕ) (id : ℕ) → k ≤ 0 → soonest_in k w d id ≡ d
-unfolding soonest_in
-soonest-none zero w d id h = refl
-soonest-none (suc k) w d id h = absurd (omega arith)
-
-pub soonest-end : (k : ℕ) (w : List ℕ) (d : Option ℕ) (id : ℕ) → id ≡ 0 → soonest_in k w d id ≡ d
-unfolding soonest_in
-soonest-end zero w d id e = refl
-soonest-end (suc k) w d id e = simp (eq-eqb _ _ e)
-
-pub soonest-more : (k : ℕ) (w : List ℕ) (d : Option ℕ) (id : ℕ) → 0 < k → (id ≡ 0 → ⊥)
-    → soonest_in k w d id ≡ soonest_in (k - 1) w (due_after w d id) (next_of w waiters_chain id)
-unfolding soonest_in
-soonest-more zero w d id h n = absurd (omega arith)
-soonest-more (suc k) w d id h n = simp (ne_eqb _ _ n, less_one k)
+-- the smallest deadline is that of the members of the chain, one after another
+pub soonest-fold : (w : List ℕ) → soonest w ≡ fold (due_after w) no_due (members_of w waiters_chain)
+unfolding soonest soonest_in members_of
+soonest-fold w = fold-members w waiters_chain (due_after w) (λ k at d. soonest_in k w d at) (λ at d. refl) (λ k at d. refl) 4096 (first_of w waiters_chain) no_due
 
 pub listed-none : (m : ℕ) (w out : List ℕ) (id k : ℕ) → m ≤ 0 → listed_in m w out id k ≡ out
 unfolding listed_in

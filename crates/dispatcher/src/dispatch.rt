@@ -39,16 +39,9 @@ fn due_after(w: &[u64], seen: Option<u64>, id: u64) -> Option<u64>
 pub fn soonest(w: &[u64]) -> Option<u64>
     ensures { result ≡ soonest w.now }
 {
-    let mut seen = None;
-    let mut at = chains::first_of(w, ready::waiters_chain());
-    for _ in 0..4096usize {
-        if at == 0 {
-            return seen;
-        }
-        seen = due_after(w, seen, at);
-        at = chains::next_of(w, ready::waiters_chain(), at);
-    }
-    seen
+    ready::waiters_chain()
+        .members(w)
+        .fold(None, |seen, id| due_after(w, seen, id))
 }
 
 // The first thread of priority `p`'s queue made current. Answers its number.
@@ -56,7 +49,7 @@ pub fn soonest(w: &[u64]) -> Option<u64>
 fn run_first(w: &mut [u64], p: u64) -> u64
     ensures { outcome (answer.Run result) w.new ≡ ran w.old p }
 {
-    let id = chains::first_of(w, ready::ready_chain(p));
+    let id = ready::ready_chain(p).front(w);
     let t = threads::Thread {
         state: threads::RUNNING,
         ..threads::read_thread(w, id)

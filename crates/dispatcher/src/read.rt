@@ -99,10 +99,10 @@ pub fn waited_object(w: &[u64], id: u64, position: u64) -> Option<Place>
     if !threads::is_known(w, id) || waited_count(w, id) <= position {
         return None;
     }
-    let at = threads::places_at(id);
+    let list = lists::places(w, id);
     let i = position as usize;
     Some(Place {
-        kind: lists::kind_in(w, at, i),
-        key: lists::key_in(w, at, i),
+        kind: list.kind(i),
+        key: list.key(i),
     })
 }

@@ -49,7 +49,7 @@ pub fn next_time(w: &[u64]) -> Option<u64>
     ensures { result ≡ next_time w.now }
 {
     let seen = soonest(w);
-    if chains::first_of(w, ready::waiters_chain()) == 0 {
+    if ready::waiters_chain().front(w) == 0 {
         return seen;
     }
     soonest_timer(w, seen)

@@ -28,7 +28,7 @@ pub fn raise(w: &mut [u64], i: usize)
     words::put(w, i, n);
 }
 
-// The origin of the work whose record stands at place `at`.
+// The origin of the work whose record stands at place `at`. Each record has a writer of its own, a line a word.
 fn put_origin(w: &mut [u64], at: usize, o: Origin)
     ensures { w.new ≡ origin_put w.old at o }
 {
@@ -67,7 +67,7 @@ pub fn accept(w: &mut [u64], n: u64, first: u64, second: u64, o: Origin)
     let queue = record::queue_chain(w);
     put_work(w, at, sequence, first, second);
     put_origin(w, at, o);
-    chains::push(w, queue, n);
+    queue.push(w, n);
     words::put(w, layout::ACCEPTED, sequence);
 }
 
@@ -77,7 +77,7 @@ pub fn withdraw(w: &mut [u64], n: u64)
 {
     let at = record::place(w, n);
     let queue = record::queue_chain(w);
-    chains::remove(w, queue, n);
+    queue.remove(w, n);
     words::put_in(w, at, layout::PHASE, IDLE);
     raise(w, layout::REMOVED);
 }

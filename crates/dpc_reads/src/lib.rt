@@ -8,13 +8,13 @@ ghost use Rattle.dpc_reads.specs.CountersAnswer as counters;
 ghost use Rattle.dpc_reads.specs.Reads.{told, known, selected, count_or_none, dpc_numbered, dpc_read, dpcs_at, active_dpc, next_dpc, policy_read, counters_read, queued_number, queued_dpcs, initializations_read};
 
 use answers::error::SchedulerError;
-use dpcs::numbered::numbered;
 use dpcs::record;
 use images::Dpc;
 use words::layout;
 
 #[derive(Clone, Copy, Debug, PartialEq, Eq)]
 pub enum DpcPolicy {
+    // As the Rust has it: a policy too.
     Unselected,
     // The arguments of a timer's work.
     Cpu0Dispatch { first: u64, second: u64 },
@@ -81,7 +81,7 @@ fn dpc_numbered(w: &[u64], n: u64) -> Option<Dpc>
 pub fn dpc(w: &[u64], address: u64) -> Result<Dpc, SchedulerError>
     ensures { known result ≡ dpc_read w.now address }
 {
-    let n = numbered(w, address).ok_or(SchedulerError::Unknown)?;
+    let n = record::number_of(w, address).ok_or(SchedulerError::Unknown)?;
     Ok(record::read_dpc(w, record::place(w, n)))
 }
 
@@ -97,7 +97,7 @@ pub fn dpcs_at(w: &[u64], position: u64) -> Option<Dpc>
 }
 
 // The DPC whose work is running or returning.
-#[tactic(auto, unfolding(crate::specs::Reads::active_dpc))]
+#[tactic(auto, unfolding(crate::specs::Reads::active_dpc, crate::specs::Reads::dpc_numbered))]
 pub fn active_dpc(w: &[u64]) -> Option<Dpc>
     ensures { told result ≡ active_dpc w.now }
 {
@@ -105,7 +105,7 @@ pub fn active_dpc(w: &[u64]) -> Option<Dpc>
     if address == 0 {
         return None;
     }
-    dpc_numbered(w, record::number_of(w, address))
+    dpc_numbered(w, record::number_of(w, address)?)
 }
 
 // The DPC whose work may start: the first of the queue, where no work is active.
@@ -116,7 +116,7 @@ pub fn next_dpc(w: &[u64]) -> Option<Dpc>
     if words::get(w, layout::ACTIVE) != 0 {
         return None;
     }
-    dpc_numbered(w, chains::first_of(w, record::queue_chain(w)))
+    dpc_numbered(w, record::queue_chain(w).front(w))
 }
 
 // The number of the DPC at a position in the queue, from 0 on.

@@ -21,7 +21,7 @@ pub struct NewDpc {
     pub context: u64,
 }
 
-// The phase of a DPC that `close_up` takes out.
+// What marks a record that goes: the phase of a DPC, the kind of an object.
 pub const GONE: u64 = 9;
 
 // The record at place `at` idle, in no queue, and no timer's.
@@ -80,7 +80,7 @@ fn raise_links(w: &mut [u64], n: u64, position: u64)
 {
     let c = record::queue_chain(w);
     for k in 0..n + 1 {
-        raise_number(w, chains::link_at(c, k), position);
+        raise_number(w, c.link_at(k), position);
     }
     raise_number(w, layout::QUEUE_LAST, position);
 }
@@ -102,15 +102,14 @@ fn insert(w: &mut [u64], address: u64, d: NewDpc)
 }
 
 // The DPC at the address as given, and idle: in its place where it is known, else new.
+#[tactic(auto, unfolding(crate::specs::Table::entered))]
 pub fn enter(w: &mut [u64], address: u64, d: NewDpc)
     ensures { w.new ≡ entered w.old address d }
 {
-    let at = objects::find_dpc(w, address);
-    if at == 0 {
-        insert(w, address, d);
-        return;
+    match objects::find_dpc(w, address) {
+        Some(at) => put_dpc(w, at, address, d),
+        None => insert(w, address, d),
     }
-    put_dpc(w, at, address, d);
 }
 
 // The DPC at place `at`, unless it goes, gets the number after `last`. Answers the last number given.
@@ -150,9 +149,9 @@ fn new_number(w: &[u64], n: u64) -> u64
 fn renew_link(w: &mut [u64], c: Chain, before: u64) -> u64
     ensures { (result ≡ next_of w.old c before) × (w.new ≡ link_renewed w.old c before) }
 {
-    let next = chains::next_of(w, c, before);
+    let next = c.after(w, before);
     let renewed = new_number(w, next);
-    words::put(w, chains::link_at(c, before), renewed);
+    words::put(w, c.link_at(before), renewed);
     next
 }
 
@@ -178,7 +177,7 @@ fn relink(w: &mut [u64])
     words::put(w, layout::QUEUE_LAST, new_number(w, last));
 }
 
-// The DPCs that go taken out of the table, and the count.
+// The DPCs that go taken out of the table, and the count. What this shares with the closing up of the timers is `tables::compact`.
 fn settle(w: &mut [u64])
     ensures { w.new ≡ settled w.old }
 {

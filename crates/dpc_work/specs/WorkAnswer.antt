@@ -1,4 +1,4 @@
--- What the start of work tells, in one type with the number of its refusal. The code answers it by a Result.
+-- What the start of work tells, in one type with the number of its refusal. The code answers a Result.
 use Rattle.std.specs.Prelude.{ℕ}
 use Rattle.images.specs.declared.DpcWork.{DpcWork}
 

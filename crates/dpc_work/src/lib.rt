@@ -9,7 +9,6 @@ ghost use Rattle.dpcs.specs.Record.{number_of};
 ghost use Rattle.dpc_work.specs.Work.{untouched, configure_refusal, policy_set, configured, duplicate_refusal, work_refusal, queue_inserted, queue_removed, head_started, start_outcome, told, work_started, phase_refusal, returning, work_returned, idle, work_restored};
 
 use answers::error::SchedulerError;
-use dpcs::numbered::numbered;
 use dpcs::{named, record};
 use images::DpcWork;
 use words::layout;
@@ -115,7 +114,7 @@ pub fn insert_queue_dpc(
     if words::get(w, layout::POLICY) == 0 {
         return Err(SchedulerError::Policy);
     }
-    let n = numbered(w, address).ok_or(SchedulerError::Unknown)?;
+    let n = record::number_of(w, address).ok_or(SchedulerError::Unknown)?;
     check_work(w, n)?;
     if dpc_queue::is_queued(w, n) {
         dpc_queue::raise(w, layout::DUPLICATES);
@@ -130,7 +129,7 @@ pub fn insert_queue_dpc(
 pub fn remove_queue_dpc(w: &mut [u64], address: u64) -> Result<bool, SchedulerError>
     ensures { outcome (answer_of answer.Flag result) w.new ≡ queue_removed w.old address }
 {
-    let n = numbered(w, address).ok_or(SchedulerError::Unknown)?;
+    let n = record::number_of(w, address).ok_or(SchedulerError::Unknown)?;
     if !dpc_queue::is_queued(w, n) {
         return Ok(false);
     }
@@ -145,7 +144,7 @@ fn start_head(w: &mut [u64], n: u64, address: u64)
 {
     let at = record::place(w, n);
     let queue = record::queue_chain(w);
-    chains::unlink(w, queue, 0, n);
+    queue.unlink(w, 0, n);
     words::put_in(w, at, layout::PHASE, dpc_queue::RUNNING);
     dpc_queue::raise(w, layout::STARTED);
     words::put(w, layout::ACTIVE, address);
@@ -156,7 +155,7 @@ fn start_head(w: &mut [u64], n: u64, address: u64)
 pub fn start_dpc(w: &mut [u64], address: u64) -> Result<DpcWork, SchedulerError>
     ensures { start_outcome (told result) w.new ≡ work_started w.old address }
 {
-    let n = chains::first_of(w, record::queue_chain(w));
+    let n = record::queue_chain(w).front(w);
     let at = record::place(w, n);
     if words::get(w, layout::ACTIVE) != 0
         || n == 0
@@ -175,7 +174,7 @@ fn in_phase(w: &[u64], address: u64, phase: u64, sequence: u64) -> Result<u64, S
     ensures refused { refusal result ≡ phase_refusal w.now address phase sequence }
     ensures number { IfOk result (λ n. n ≡ number_of w.now address) }
 {
-    let n = numbered(w, address).ok_or(SchedulerError::Unknown)?;
+    let n = record::number_of(w, address).ok_or(SchedulerError::Unknown)?;
     let at = record::place(w, n);
     if words::get_in(w, at, layout::PHASE) != phase
         || words::get_in(w, at, layout::WORK_SEQUENCE) != sequence

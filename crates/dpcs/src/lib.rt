@@ -2,5 +2,4 @@
 #![tactic(auto)]
 
 pub mod named;
-pub mod numbered;
 pub mod record;

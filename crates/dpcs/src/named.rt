@@ -5,16 +5,13 @@ ghost use Rattle.dpcs.specs.Named.{is_bare, any_bare, is_named};
 use words::layout;
 
 // Whether the object at place `at` is an inserted timer with no DPC.
+#[tactic(auto, unfolding(crate::specs::Named::is_bare))]
 fn is_bare(w: &[u64], at: usize) -> bool
     ensures { result ≡ is_bare w.now at }
 {
-    if words::get_in(w, at, layout::KIND) != objects::TIMER {
-        return false;
-    }
-    if words::get_in(w, at, layout::INSERTED) == 0 {
-        return false;
-    }
-    words::get_in(w, at, layout::TIMER_DPC) == 0
+    words::get_in(w, at, layout::KIND) == objects::TIMER
+        && words::get_in(w, at, layout::INSERTED) != 0
+        && words::get_in(w, at, layout::TIMER_DPC) == 0
 }
 
 fn any_bare(w: &[u64]) -> bool
@@ -25,15 +22,12 @@ fn any_bare(w: &[u64]) -> bool
 }
 
 // Whether an inserted timer has the DPC at the address.
+#[tactic(auto, unfolding(crate::specs::Named::is_named))]
 pub fn is_named(w: &[u64], address: u64) -> bool
     ensures { result ≡ is_named w.now address }
 {
     if address == 0 {
         return any_bare(w);
     }
-    let at = objects::find_dpc(w, address);
-    if at == 0 {
-        return false;
-    }
-    words::get_in(w, at, layout::NAMED_BY) != 0
+    objects::find_dpc(w, address).is_some_and(|at| words::get_in(w, at, layout::NAMED_BY) != 0)
 }

@@ -1,12 +1,14 @@
 // A DPC's record: its number, its place, and what its words say. A DPC's number is its position in the table and one more.
-ghost use Rattle.std.specs.Prelude.{◌≡◌};
-ghost use Rattle.dpcs.specs.Record.{dpc_count, number_of, place_at, queue_chain, timer_origin, origin_at, work_at, backing_at, phase_at, dpc_at};
+ghost use Rattle.std.specs.Prelude.{◌≡◌, ◌+◌, ◌≤◌, get_or};
+ghost use Rattle.images.specs.Place.{backing_of};
+ghost use Rattle.objects.specs.Found.{nonzero};
+ghost use Rattle.dpcs.specs.Record.{dpc_count, number_of, place_at, queue_chain, timer_origin, origin_at, work_at, phase_at, dpc_at};
 
 use chains::Chain;
 use images::{Dpc, DpcOrigin, DpcPhase, DpcWork, TimerBacking};
 use words::layout;
 
-// The phases of a DPC.
+// The phases of a DPC as words hold them; `DpcPhase` is what they tell.
 pub const IDLE: u64 = 0;
 
 pub const QUEUED: u64 = 1;
@@ -22,30 +24,26 @@ pub fn count(w: &[u64]) -> u64
     words::get(w, layout::DPCS).min(4096)
 }
 
-// The number of the DPC at the address; 0 where there is none.
-pub fn number_of(w: &[u64], address: u64) -> u64
-    ensures { result ≡ number_of w.now address }
+// The number of the DPC at the address.
+#[tactic(auto, unfolding(crate::specs::Record::number_of))]
+pub fn number_of(w: &[u64], address: u64) -> Option<u64>
+    ensures { result ≡ nonzero (number_of w.now address) }
 {
     let base = objects::dpcs_base(w);
     let n = words::get(w, layout::DPCS);
     let i = tables::find(w, base, n, address);
-    if n <= i {
-        return 0;
+    if n <= i || tables::key_at(w, base, i) != address {
+        return None;
     }
-    if tables::key_at(w, base, i) != address {
-        return 0;
-    }
-    i + 1
+    Some(i + 1)
 }
 
 // Where DPC `n` stands; a number that no DPC can have gets unused words of the header.
+#[tactic(auto, unfolding(crate::specs::Record::place_at))]
 pub fn place(w: &[u64], n: u64) -> usize
     ensures { result ≡ place_at w.now n }
 {
-    if n == 0 {
-        return layout::UNUSED;
-    }
-    if 4096 < n {
+    if n == 0 || 4096 < n {
         return layout::UNUSED;
     }
     layout::entry_at(objects::dpcs_base(w), n - 1)
@@ -99,13 +97,18 @@ pub fn work_at(w: &[u64], at: usize) -> DpcWork
     }
 }
 
-fn backing_at(w: &[u64], at: usize) -> TimerBacking
-    ensures { result ≡ backing_at w.now at }
+// The backing whose kind, base, size and mapped bytes are the four words from word `k` on of the record at place `at`, be it a DPC's or a
+// timer's.
+pub fn backing_from(w: &[u64], at: usize, k: usize) -> TimerBacking
+    requires { k ≤ 13 }
+    ensures { result ≡ backing_of (get_or w.now (at + k) 0) (get_or w.now (at + (k + 1)) 0) (get_or w.now (at + (k + 2)) 0) (get_or w.now (at + (k + 3)) 0) }
 {
-    let kind = words::get_in(w, at, layout::DPC_BACKING);
-    let base = words::get_in(w, at, layout::DPC_BASE);
-    let size = words::get_in(w, at, layout::DPC_SIZE);
-    images::backing_of(kind, base, size, words::get_in(w, at, layout::DPC_MAPPED))
+    images::backing_of(
+        words::get_in(w, at, k),
+        words::get_in(w, at, k + 1),
+        words::get_in(w, at, k + 2),
+        words::get_in(w, at, k + 3),
+    )
 }
 
 fn phase_at(w: &[u64], at: usize) -> DpcPhase
@@ -120,13 +123,14 @@ fn phase_at(w: &[u64], at: usize) -> DpcPhase
 }
 
 // The DPC at place `at`.
+#[tactic(auto, unfolding(crate::specs::Record::dpc_at, crate::specs::Record::backing_at))]
 pub fn read_dpc(w: &[u64], at: usize) -> Dpc
     ensures { result ≡ dpc_at w.now at }
 {
     Dpc {
         address: words::get(w, at),
         architecture: images::architecture_of(words::get_in(w, at, layout::DPC_ARCHITECTURE)),
-        backing: backing_at(w, at),
+        backing: backing_from(w, at, layout::DPC_BACKING),
         routine: words::get_in(w, at, layout::ROUTINE),
         context: words::get_in(w, at, layout::CONTEXT),
         phase: phase_at(w, at),

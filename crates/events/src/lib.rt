@@ -9,7 +9,6 @@ ghost use Rattle.events.specs.Events.{flag, new_event, event_refusal, initialize
 
 use answers::Answer;
 use answers::error::SchedulerError;
-use objects::found;
 use words::layout;
 
 #[derive(Clone, Copy, Debug, PartialEq, Eq)]
@@ -89,11 +88,11 @@ pub fn event_at(w: &[u64], at: usize) -> Option<Event>
     })
 }
 
-#[tactic(auto, unfolding(crate::specs::Events::event_state))]
+#[tactic(auto, unfolding(crate::specs::Events::event_state, crate::specs::Events::state_at))]
 pub fn event_state(w: &[u64], key: u64) -> Option<Event>
     ensures { told result ≡ event_state w.now key }
 {
-    event_at(w, objects::place_of(w, objects::EVENT, key))
+    event_at(w, objects::place_of(w, objects::EVENT, key)?)
 }
 
 // Whether the event whose record stands at place `at` is signaled.
@@ -109,7 +108,7 @@ fn was_signaled(w: &[u64], at: usize) -> bool
 pub fn set_event(w: &mut [u64], key: u64) -> Result<bool, SchedulerError>
     ensures { outcome (answer_of answer.Flag result) w.new ≡ was_set w.old key }
 {
-    let at = found::object(w, objects::EVENT, key).ok_or(SchedulerError::Unknown)?;
+    let at = objects::place_of(w, objects::EVENT, key).ok_or(SchedulerError::Unknown)?;
     let before = was_signaled(w, at);
     words::put_in(w, at, layout::SIGNALED, 1);
     wakes::wake(w);
@@ -120,7 +119,7 @@ pub fn set_event(w: &mut [u64], key: u64) -> Result<bool, SchedulerError>
 pub fn reset_event(w: &mut [u64], key: u64) -> Result<bool, SchedulerError>
     ensures { outcome (answer_of answer.Flag result) w.new ≡ was_reset w.old key }
 {
-    let at = found::object(w, objects::EVENT, key).ok_or(SchedulerError::Unknown)?;
+    let at = objects::place_of(w, objects::EVENT, key).ok_or(SchedulerError::Unknown)?;
     let before = was_signaled(w, at);
     words::put_in(w, at, layout::SIGNALED, 0);
     Ok(before)

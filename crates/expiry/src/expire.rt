@@ -7,7 +7,7 @@ use dpc_queue::Origin;
 use dpcs::record;
 use words::layout;
 
-// The number of the DPC of the timer at place `at`, if it has one.
+// The number of the DPC of the timer at place `at`, if it has one; 0 of one that is not there.
 #[tactic(auto, unfolding(crate::specs::Expire::dpc_of))]
 pub fn dpc_of(w: &[u64], at: usize) -> Option<u64>
     ensures { result ≡ dpc_of w.now at }
@@ -16,7 +16,7 @@ pub fn dpc_of(w: &[u64], at: usize) -> Option<u64>
     if dpc == 0 {
         return None;
     }
-    Some(record::number_of(w, dpc))
+    Some(record::number_of(w, dpc).unwrap_or(0))
 }
 
 // The work of the timer at place `at`, seen at `time`.

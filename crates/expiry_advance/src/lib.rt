@@ -12,7 +12,7 @@ use expiry::{check, due, expire};
 use expiry_order::sort;
 use words::layout;
 
-// With a policy due timers go by due, then address; without one, by address.
+// With a policy due timers go by due, then address; without one, by address. The room is lent, since there is no heap.
 #[tactic(auto, unfolding(crate::specs::Advance::arranged))]
 fn arrange(w: &[u64], base: usize, list: &mut [u64], room: &mut [u64])
     requires { length list.old ≤ length room.old }
@@ -45,16 +45,6 @@ fn gather(w: &[u64], time: u64, list: &mut [u64], room: &mut [u64]) -> usize
     n
 }
 
-// The first `n` timers of the list.
-fn run_front(w: &mut [u64], list: &[u64], n: usize, time: u64) -> Result<(), SchedulerError>
-    requires { n ≤ length list.now }
-    ensures told { (refusal result ≡ list_refusal w.old (objects_base w.old) (take n list.now) time) × (w.new ≡ ran w.old (objects_base w.old) (take n list.now) time) }
-    ensures err { OnErr result (w.new ≡ w.old) }
-{
-    let base = objects::objects_base(w);
-    run(w, base, &list[..n], time)
-}
-
 // With room for every object in two lists.
 #[tactic(auto, unfolding(crate::specs::Advance::expiry_refusal, crate::specs::Advance::expiry_words))]
 fn expire_in(
@@ -68,7 +58,7 @@ fn expire_in(
     ensures err { OnErr result (w.new ≡ w.old) }
 {
     let n = gather(w, time, list, room);
-    run_front(w, list, n, time)
+    run(w, objects::objects_base(w), &list[..n], time)
 }
 
 // With two lists of `N` places.

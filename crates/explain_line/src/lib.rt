@@ -11,7 +11,7 @@ use answers::Answer;
 use reasons::Reason;
 use runner::lines::Answered;
 use runner::session;
-use script_lex::lex;
+use script_lex::lex::Words;
 use script_print::Text;
 
 // Why the session refuses a line that can be read: with nothing open any but an `open`, then an `open`, and but for these a clock's line.
@@ -22,7 +22,7 @@ fn session_reason(line: &[u8], opened: bool) -> Reason
         return Reason::BeforeOpen;
     }
     let n = script::text_length(line);
-    if lex::is_word(&line[..n], 0, b"open") {
+    if Words::of(&line[..n]).is(b"open") {
         return Reason::SecondOpen;
     }
     Reason::BeforeClock

@@ -1,5 +1,8 @@
 -- What an exported call gives, from what the call answers.
-use mathlib.Core.Path.{◌≡◌, ap, ◌∙◌}
+use mathlib.Core.Path.{◌≡◌, ap, ◌∙◌, refl}
+use mathlib.Core.Bool.{Bool, true, false}
+use Rattle.std.specs.Prelude.{is_some, unwrap_or}
+use Rattle.std.specs.Bool.{then_some}
 use mathlib.Core.List.{List}
 use Prim.Native.Nat.{ℕ, ◌≤◌, ◌<◌}
 use lib.ListN.{length}
@@ -8,8 +11,16 @@ use Rattle.answers.specs.declared.Answer.{Answer}
 use Rattle.answers.specs.Outcome.{Outcome, outcome}
 use Rattle.dispatcher.specs.Dispatch.{Dispatched, told}
 use Rattle.model.specs.Call as call
-use Rattle.calls.specs.Called.{called}
+use Rattle.calls.specs.Called.{called, optional}
 use Rattle.exports.specs.SchedulerAnswer.{refusal_of, answer_in, given, changed_by, given_all, dispatched_by, Given, GivenAll}
+
+-- an argument that may be absent, as C lends it: whether it is there, and its value
+pub lent-argument : (there : Bool) (n : ℕ) → optional (is_some (then_some there n)) (unwrap_or (then_some there n) 0) ≡ optional there n
+lent-argument true n = refl
+lent-argument false n = refl
+
+pub given-same : {m n : ℕ} {w a b : List ℕ} → m ≡ n → a ≡ b → given m w a ≡ given n w b
+given-same {w = w} p q = λ i. given (p i) w (q i)
 
 module _ (w out : List ℕ) where
   pub changed-short : (o : Outcome) → length out < 4 → given 27 w out ≡ changed_by w out o

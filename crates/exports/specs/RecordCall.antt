@@ -1,5 +1,6 @@
 -- What an exported call gives that reads, or answers work or an image.
-use Rattle.std.specs.Prelude.{cond, ℕ, List, length, ltb}
+use Rattle.std.specs.Prelude.{◌≡◌, cond, ℕ, List, length, ltb}
+use Rattle.std.specs.Borrow.{MutBor}
 use Rattle.dpc_work.specs.Work.{Started}
 use Rattle.calls.specs.Guard.{Kind, Code}
 use Rattle.calls.specs.Guard as kind
@@ -20,6 +21,10 @@ room kind.counts = 24
 
 unfoldable pub read_by : (k : Kind) → List ℕ → List ℕ → Code k → Given
 read_by k w out a = cond (ltb (length out) (room k)) (given 27 w out) (given (refusal_as k a) w (answer_as k out a))
+
+-- what puts an answer into an output with room for it, by its runs: the number that it answers, and what it leaves there
+abbrev pub Puts : (MutBor (List ℕ) → ℕ → MutBor (List ℕ) → Type 0) → (k : Kind) → Code k → Type 0
+Puts runs k a = (out : MutBor (List ℕ)) (n : ℕ) (after : MutBor (List ℕ)) → runs out n after → (n ≡ refusal_as k a) × (after.now ≡ answer_as k out.now a)
 
 -- ---- work: an output under 24 words is refused with 27
 

@@ -1,8 +1,9 @@
 -- A scheduler's answer in lent words, and what an exported call gives: its number, the scheduler's words, and the output.
-use Rattle.std.specs.Prelude.{Bool, cond, not, ℕ, List, set, length, ltb, eqb}
+use Rattle.std.specs.Prelude.{◌≡◌, Bool, cond, not, ℕ, List, set, length, ltb, eqb}
+use Rattle.std.specs.Borrow.{MutBor}
 use Rattle.answers.specs.declared.Answer.{Answer}
 use Rattle.answers.specs.declared.Answer.TheVariants as answer
-use Rattle.answers.specs.Outcome.{Outcome, bit}
+use Rattle.answers.specs.Outcome.{Outcome, outcome, bit}
 use Rattle.model.specs.Call as call
 use Rattle.calls.specs.Called.{called}
 
@@ -64,6 +65,11 @@ truth n = not (eqb n 0)
 -- an output under four words is refused with 27
 unfoldable pub changed_by : List ℕ → List ℕ → Outcome → Given
 changed_by w out o = cond (ltb (length out) 4) (given 27 w out) (given (refusal_of o.answer) o.words (answer_in out o.answer))
+
+-- what a call does, from the words to its answer and the words after it: `runs` says which of its own answers it may give and what it
+-- leaves, and `converts` what that answer is told as
+abbrev pub Does : {A : Type 0} → (MutBor (List ℕ) → A → MutBor (List ℕ) → Type 0) → (A → Answer → Type 0) → (List ℕ → Outcome) → Type 0
+Does {A} runs converts f = (w : MutBor (List ℕ)) (r : A) (after : MutBor (List ℕ)) (a : Answer) → runs w r after → converts r a → outcome a after.now ≡ f w.now
 
 -- a dispatch has a second output, for the waiting threads' numbers
 pub record GivenAll : Type 0 where

@@ -7,10 +7,8 @@ ghost use Rattle.calls.specs.Guard as kind;
 ghost use Rattle.exports.specs.SchedulerAnswer.{given, changed_by};
 ghost use Rattle.exports.specs.RecordCall.{read_by, started_by};
 
-use super::record_answer::{
-    put_counters_answer, put_dpc_answer, put_policy_answer, put_work_answer,
-};
-use super::scheduler_answer::put_answer;
+use super::record_answer::{counters_answer, dpc_answer, policy_answer, put_work_answer};
+use super::scheduler_answer::{answer, change};
 
 #[unsafe(no_mangle)]
 pub extern "C" fn scheduler_configure_dpc_dispatch(
@@ -21,11 +19,11 @@ pub extern "C" fn scheduler_configure_dpc_dispatch(
 ) -> u64
     ensures { given result words.new out.new ≡ changed_by words.old out.old (called words.old (call.ConfigureDpcDispatch first second)) }
 {
-    if out.len() < 4 {
-        return 27;
-    }
-    let answer = scheduler::dpc_calls::configure_dpc_dispatch(words, first, second);
-    put_answer(out, answer.into())
+    change(
+        words,
+        out,
+        |w| scheduler::dpc_calls::configure_dpc_dispatch(w, first, second),
+    )
 }
 
 #[unsafe(no_mangle)]
@@ -38,11 +36,11 @@ pub extern "C" fn scheduler_insert_queue_dpc(
 ) -> u64
     ensures { given result words.new out.new ≡ changed_by words.old out.old (called words.old (call.InsertQueueDpc address first second)) }
 {
-    if out.len() < 4 {
-        return 27;
-    }
-    let answer = scheduler::dpc_calls::insert_queue_dpc(words, address, first, second);
-    put_answer(out, answer.into())
+    change(
+        words,
+        out,
+        |w| scheduler::dpc_calls::insert_queue_dpc(w, address, first, second),
+    )
 }
 
 #[unsafe(no_mangle)]
@@ -53,11 +51,11 @@ pub extern "C" fn scheduler_remove_queue_dpc(
 ) -> u64
     ensures { given result words.new out.new ≡ changed_by words.old out.old (called words.old (call.RemoveQueueDpc address)) }
 {
-    if out.len() < 4 {
-        return 27;
-    }
-    let answer = scheduler::dpc_calls::remove_queue_dpc(words, address);
-    put_answer(out, answer.into())
+    change(
+        words,
+        out,
+        |w| scheduler::dpc_calls::remove_queue_dpc(w, address),
+    )
 }
 
 #[unsafe(no_mangle)]
@@ -80,11 +78,11 @@ pub extern "C" fn scheduler_returned_dpc(
 ) -> u64
     ensures { given result words.new out.new ≡ changed_by words.old out.old (called words.old (call.ReturnedDpc address sequence)) }
 {
-    if out.len() < 4 {
-        return 27;
-    }
-    let answer = scheduler::dpc_calls::returned_dpc(words, address, sequence);
-    put_answer(out, answer.into())
+    change(
+        words,
+        out,
+        |w| scheduler::dpc_calls::returned_dpc(w, address, sequence),
+    )
 }
 
 #[unsafe(no_mangle)]
@@ -96,97 +94,65 @@ pub extern "C" fn scheduler_restored_dpc(
 ) -> u64
     ensures { given result words.new out.new ≡ changed_by words.old out.old (called words.old (call.RestoredDpc address sequence)) }
 {
-    if out.len() < 4 {
-        return 27;
-    }
-    let answer = scheduler::dpc_calls::restored_dpc(words, address, sequence);
-    put_answer(out, answer.into())
+    change(
+        words,
+        out,
+        |w| scheduler::dpc_calls::restored_dpc(w, address, sequence),
+    )
 }
 
 #[unsafe(no_mangle)]
 pub extern "C" fn scheduler_dpc_initializations(words: &[u64], out: &mut [u64]) -> u64
     ensures { given result words.now out.new ≡ read_by kind.plain words.now out.old (called words.now (call.Reads call.DpcInitializations)) }
 {
-    if out.len() < 4 {
-        return 27;
-    }
-    let answer = scheduler::dpc_calls::dpc_initializations(words);
-    put_answer(out, answer.into())
+    answer(out, scheduler::dpc_calls::dpc_initializations(words))
 }
 
 #[unsafe(no_mangle)]
 pub extern "C" fn scheduler_queued_dpcs(words: &[u64], position: u64, out: &mut [u64]) -> u64
     ensures { given result words.now out.new ≡ read_by kind.plain words.now out.old (called words.now (call.Reads (call.QueuedDpcs position))) }
 {
-    if out.len() < 4 {
-        return 27;
-    }
-    let answer = scheduler::dpc_calls::queued_dpcs(words, position);
-    put_answer(out, answer.into())
+    answer(out, scheduler::dpc_calls::queued_dpcs(words, position))
 }
 
 #[unsafe(no_mangle)]
 pub extern "C" fn scheduler_dpc(words: &[u64], address: u64, out: &mut [u64]) -> u64
     ensures { given result words.now out.new ≡ read_by kind.dpcs words.now out.old (called words.now (call.Reads (call.DpcAt address))) }
 {
-    if out.len() < 24 {
-        return 27;
-    }
-    let answer = scheduler::dpc_calls::dpc(words, address).map(Some);
-    put_dpc_answer(out, answer)
+    dpc_answer(out, scheduler::dpc_calls::dpc(words, address).map(Some))
 }
 
 #[unsafe(no_mangle)]
 pub extern "C" fn scheduler_dpcs(words: &[u64], position: u64, out: &mut [u64]) -> u64
     ensures { given result words.now out.new ≡ read_by kind.dpcs words.now out.old (called words.now (call.Reads (call.Dpcs position))) }
 {
-    if out.len() < 24 {
-        return 27;
-    }
-    let answer = scheduler::dpc_calls::dpcs(words, position);
-    put_dpc_answer(out, answer)
+    dpc_answer(out, scheduler::dpc_calls::dpcs(words, position))
 }
 
 #[unsafe(no_mangle)]
 pub extern "C" fn scheduler_active_dpc(words: &[u64], out: &mut [u64]) -> u64
     ensures { given result words.now out.new ≡ read_by kind.dpcs words.now out.old (called words.now (call.Reads call.ActiveDpc)) }
 {
-    if out.len() < 24 {
-        return 27;
-    }
-    let answer = scheduler::dpc_calls::active_dpc(words);
-    put_dpc_answer(out, answer)
+    dpc_answer(out, scheduler::dpc_calls::active_dpc(words))
 }
 
 #[unsafe(no_mangle)]
 pub extern "C" fn scheduler_next_dpc(words: &[u64], out: &mut [u64]) -> u64
     ensures { given result words.now out.new ≡ read_by kind.dpcs words.now out.old (called words.now (call.Reads call.NextDpc)) }
 {
-    if out.len() < 24 {
-        return 27;
-    }
-    let answer = scheduler::dpc_calls::next_dpc(words);
-    put_dpc_answer(out, answer)
+    dpc_answer(out, scheduler::dpc_calls::next_dpc(words))
 }
 
 #[unsafe(no_mangle)]
 pub extern "C" fn scheduler_dpc_policy(words: &[u64], out: &mut [u64]) -> u64
     ensures { given result words.now out.new ≡ read_by kind.policies words.now out.old (called words.now (call.Reads call.DpcPolicy)) }
 {
-    if out.len() < 24 {
-        return 27;
-    }
-    let answer = scheduler::dpc_calls::dpc_policy(words);
-    put_policy_answer(out, answer)
+    policy_answer(out, scheduler::dpc_calls::dpc_policy(words))
 }
 
 #[unsafe(no_mangle)]
 pub extern "C" fn scheduler_dpc_counters(words: &[u64], out: &mut [u64]) -> u64
     ensures { given result words.now out.new ≡ read_by kind.counts words.now out.old (called words.now (call.Reads call.DpcCounters)) }
 {
-    if out.len() < 24 {
-        return 27;
-    }
-    let answer = scheduler::dpc_calls::dpc_counters(words);
-    put_counters_answer(out, answer)
+    counters_answer(out, scheduler::dpc_calls::dpc_counters(words))
 }

@@ -1,4 +1,5 @@
-// The proved calls for C and Rust, over numbers and slices. Each answers 0 or a number of document 01's table.
+// The proved calls for C and Rust. C lends no struct and takes no enum: parameters come one by one, words and records of answers are slices of
+// numbers, and each call answers 0 or a number of document 01's table.
 #![tactic(auto)]
 
 pub mod clock_calls;

@@ -1,6 +1,7 @@
 // A record that a call answers, in lent words: a tag, and the record's values behind it.
-ghost use Rattle.std.specs.Prelude.{◌≡◌};
+ghost use Rattle.std.specs.Prelude.{◌≡◌, List, ℕ};
 ghost use Rattle.answers.specs.Errors.{told_by};
+ghost use Rattle.calls.specs.Guard.{Kind, Code};
 ghost use Rattle.calls.specs.Guard as kind;
 ghost use Rattle.dispatcher.specs.Read as read;
 ghost use Rattle.dispatcher.specs.PlaceAnswer as place;
@@ -12,6 +13,8 @@ ghost use Rattle.dpc_reads.specs.PolicyAnswer as policy;
 ghost use Rattle.dpc_work.specs.Work as work;
 ghost use Rattle.timers.specs.Reads as timers;
 ghost use Rattle.timers.specs.TimerAnswer as timer;
+ghost use Rattle.exports.specs.SchedulerAnswer.{given};
+ghost use Rattle.exports.specs.RecordCall.{room, read_by, Puts};
 ghost use Rattle.exports.specs.RecordAnswer.{
   located_in,
   state_in,
@@ -212,9 +215,10 @@ fn put_thread(out: &mut [u64], t: ThreadView) -> u64
     0
 }
 
-// ---- answers: the record written to `out`; the number of a refusal, which writes nothing
+// ---- answers: the record written to `out`; the number of a refusal, which writes nothing. Each record has a tag and a writer of its own: a
+// trait over them would say the two again for each
 
-#[tactic(auto, unfolding(crate::specs::RecordAnswer::refusal_as, crate::specs::RecordAnswer::answer_as, crate::specs::RecordAnswer::work_refusal, crate::specs::RecordAnswer::work_answer_in))]
+#[tactic(auto, unfolding(crate::specs::RecordAnswer::refusal_as, crate::specs::RecordAnswer::answer_as))]
 pub fn put_timer_answer(out: &mut [u64], called: Result<Option<Timer>, SchedulerError>) -> u64
     ensures { (result ≡ refusal_as kind.timers (told_by timers.told timer.Refused called)) × (out.new ≡ answer_as kind.timers out.old (told_by timers.told timer.Refused called)) }
 {
@@ -225,7 +229,7 @@ pub fn put_timer_answer(out: &mut [u64], called: Result<Option<Timer>, Scheduler
     }
 }
 
-#[tactic(auto, unfolding(crate::specs::RecordAnswer::refusal_as, crate::specs::RecordAnswer::answer_as, crate::specs::RecordAnswer::work_refusal, crate::specs::RecordAnswer::work_answer_in))]
+#[tactic(auto, unfolding(crate::specs::RecordAnswer::refusal_as, crate::specs::RecordAnswer::answer_as))]
 pub fn put_dpc_answer(out: &mut [u64], called: Result<Option<Dpc>, SchedulerError>) -> u64
     ensures { (result ≡ refusal_as kind.dpcs (told_by dpcs.told dpc.Refused called)) × (out.new ≡ answer_as kind.dpcs out.old (told_by dpcs.told dpc.Refused called)) }
 {
@@ -236,7 +240,6 @@ pub fn put_dpc_answer(out: &mut [u64], called: Result<Option<Dpc>, SchedulerErro
     }
 }
 
-#[tactic(auto, unfolding(crate::specs::RecordAnswer::refusal_as, crate::specs::RecordAnswer::answer_as, crate::specs::RecordAnswer::work_refusal, crate::specs::RecordAnswer::work_answer_in))]
 pub fn put_work_answer(out: &mut [u64], called: Result<DpcWork, SchedulerError>) -> u64
     ensures { (result ≡ work_refusal (work.told called)) × (out.new ≡ work_answer_in out.old (work.told called)) }
 {
@@ -246,7 +249,7 @@ pub fn put_work_answer(out: &mut [u64], called: Result<DpcWork, SchedulerError>)
     }
 }
 
-#[tactic(auto, unfolding(crate::specs::RecordAnswer::refusal_as, crate::specs::RecordAnswer::answer_as, crate::specs::RecordAnswer::work_refusal, crate::specs::RecordAnswer::work_answer_in))]
+#[tactic(auto, unfolding(crate::specs::RecordAnswer::refusal_as, crate::specs::RecordAnswer::answer_as))]
 pub fn put_policy_answer(out: &mut [u64], called: Result<DpcPolicy, SchedulerError>) -> u64
     ensures { (result ≡ refusal_as kind.policies (told_by dpcs.selected policy.Refused called)) × (out.new ≡ answer_as kind.policies out.old (told_by dpcs.selected policy.Refused called)) }
 {
@@ -257,7 +260,7 @@ pub fn put_policy_answer(out: &mut [u64], called: Result<DpcPolicy, SchedulerErr
     }
 }
 
-#[tactic(auto, unfolding(crate::specs::RecordAnswer::refusal_as, crate::specs::RecordAnswer::answer_as, crate::specs::RecordAnswer::work_refusal, crate::specs::RecordAnswer::work_answer_in))]
+#[tactic(auto, unfolding(crate::specs::RecordAnswer::refusal_as, crate::specs::RecordAnswer::answer_as))]
 pub fn put_counters_answer(out: &mut [u64], called: Result<DpcCounters, SchedulerError>) -> u64
     ensures { (result ≡ refusal_as kind.counts (told_by counters.Counters counters.Refused called)) × (out.new ≡ answer_as kind.counts out.old (told_by counters.Counters counters.Refused called)) }
 {
@@ -267,7 +270,7 @@ pub fn put_counters_answer(out: &mut [u64], called: Result<DpcCounters, Schedule
     }
 }
 
-#[tactic(auto, unfolding(crate::specs::RecordAnswer::refusal_as, crate::specs::RecordAnswer::answer_as, crate::specs::RecordAnswer::work_refusal, crate::specs::RecordAnswer::work_answer_in))]
+#[tactic(auto, unfolding(crate::specs::RecordAnswer::refusal_as, crate::specs::RecordAnswer::answer_as))]
 pub fn put_thread_answer(out: &mut [u64], called: Result<Option<ThreadView>, SchedulerError>) -> u64
     ensures { (result ≡ refusal_as kind.threads (told_by read.told_thread thread.Refused called)) × (out.new ≡ answer_as kind.threads out.old (told_by read.told_thread thread.Refused called)) }
 {
@@ -278,7 +281,7 @@ pub fn put_thread_answer(out: &mut [u64], called: Result<Option<ThreadView>, Sch
     }
 }
 
-#[tactic(auto, unfolding(crate::specs::RecordAnswer::refusal_as, crate::specs::RecordAnswer::answer_as, crate::specs::RecordAnswer::work_refusal, crate::specs::RecordAnswer::work_answer_in))]
+#[tactic(auto, unfolding(crate::specs::RecordAnswer::refusal_as, crate::specs::RecordAnswer::answer_as))]
 pub fn put_place_answer(out: &mut [u64], called: Result<Option<Place>, SchedulerError>) -> u64
     ensures { (result ≡ refusal_as kind.places (told_by read.told_place place.Refused called)) × (out.new ≡ answer_as kind.places out.old (told_by read.told_place place.Refused called)) }
 {
@@ -287,4 +290,53 @@ pub fn put_place_answer(out: &mut [u64], called: Result<Option<Place>, Scheduler
         Ok(None) => tag(out, 2),
         Err(error) => error.number(),
     }
+}
+
+// ---- the same, where `out` has room for a record; else 27
+
+// What `put` writes, where there is room for it.
+fn in_room<F: FnOnce(&mut [u64]) -> u64>(out: &mut [u64], put: F) -> u64
+    requires { F.IsAlwaysCallable put }
+    ensures { (k : Kind) → room k ≡ 24 → (a : Code k) → Puts (F.post put) k a → (w : List ℕ) → given result w out.new ≡ read_by k w out.old a }
+{
+    if out.len() < 24 {
+        return 27;
+    }
+    put(out)
+}
+
+pub fn timer_answer(out: &mut [u64], called: Result<Option<Timer>, SchedulerError>) -> u64
+    ensures { (w : List ℕ) → given result w out.new ≡ read_by kind.timers w out.old (told_by timers.told timer.Refused called) }
+{
+    in_room(out, |out| put_timer_answer(out, called))
+}
+
+pub fn dpc_answer(out: &mut [u64], called: Result<Option<Dpc>, SchedulerError>) -> u64
+    ensures { (w : List ℕ) → given result w out.new ≡ read_by kind.dpcs w out.old (told_by dpcs.told dpc.Refused called) }
+{
+    in_room(out, |out| put_dpc_answer(out, called))
+}
+
+pub fn policy_answer(out: &mut [u64], called: Result<DpcPolicy, SchedulerError>) -> u64
+    ensures { (w : List ℕ) → given result w out.new ≡ read_by kind.policies w out.old (told_by dpcs.selected policy.Refused called) }
+{
+    in_room(out, |out| put_policy_answer(out, called))
+}
+
+pub fn counters_answer(out: &mut [u64], called: Result<DpcCounters, SchedulerError>) -> u64
+    ensures { (w : List ℕ) → given result w out.new ≡ read_by kind.counts w out.old (told_by counters.Counters counters.Refused called) }
+{
+    in_room(out, |out| put_counters_answer(out, called))
+}
+
+pub fn thread_answer(out: &mut [u64], called: Result<Option<ThreadView>, SchedulerError>) -> u64
+    ensures { (w : List ℕ) → given result w out.new ≡ read_by kind.threads w out.old (told_by read.told_thread thread.Refused called) }
+{
+    in_room(out, |out| put_thread_answer(out, called))
+}
+
+pub fn place_answer(out: &mut [u64], called: Result<Option<Place>, SchedulerError>) -> u64
+    ensures { (w : List ℕ) → given result w out.new ≡ read_by kind.places w out.old (told_by read.told_place place.Refused called) }
+{
+    in_room(out, |out| put_place_answer(out, called))
 }

@@ -1,6 +1,10 @@
 // A scheduler's answer in lent words: a tag, and the answer's values behind it.
-ghost use Rattle.std.specs.Prelude.{◌≡◌};
-ghost use Rattle.exports.specs.SchedulerAnswer.{refusal_of, answer_in, tagged, valued, evented};
+ghost use Rattle.std.specs.Prelude.{◌≡◌, List, ℕ};
+ghost use Rattle.answers.specs.declared.Answer.{Answer};
+ghost use Rattle.answers.specs.Outcome.{Outcome};
+ghost use Rattle.calls.specs.Guard as kind;
+ghost use Rattle.exports.specs.RecordCall.{read_by};
+ghost use Rattle.exports.specs.SchedulerAnswer.{refusal_of, answer_in, tagged, valued, evented, given, changed_by, Does};
 ghost use Rattle.answers.specs.Outcome.{bit};
 
 use answers::Answer;
@@ -21,10 +25,11 @@ fn value(out: &mut [u64], t: u64, v: u64) -> u64
     0
 }
 
+// A function of its own, so that each word put says `bit`.
 pub fn flag(b: bool) -> u64
     ensures { result ≡ bit b }
 {
-    if b { 1 } else { 0 }
+    u64::from(b)
 }
 
 fn event(out: &mut [u64], key: u64, manual: bool, signaled: bool) -> u64
@@ -61,4 +66,31 @@ pub fn put_answer(out: &mut [u64], a: Answer) -> u64
             signaled,
         } => event(out, key, manual, signaled),
     }
+}
+
+// A call on the words, and its answer written to `out`; without room for an answer 27, and no call.
+pub fn change<T: Into<Answer>, F: FnOnce(&mut [u64]) -> T>(
+    words: &mut [u64],
+    out: &mut [u64],
+    call: F,
+) -> u64
+    requires { F.IsAlwaysCallable call }
+    ensures { (f : List ℕ → Outcome) → Does (F.post call) T.converts f → given result words.new out.new ≡ changed_by words.old out.old (f words.old) }
+{
+    if out.len() < 4 {
+        return 27;
+    }
+    let answer = call(words);
+    put_answer(out, answer.into())
+}
+
+// What a read answers, written to `out`; 27 without room for it.
+pub fn answer<T: Into<Answer>>(out: &mut [u64], read: T) -> u64
+    ensures { (a : Answer) → ((x : Answer) → T.converts read x → x ≡ a) → (w : List ℕ) → given result w out.new ≡ read_by kind.plain w out.old a }
+{
+    let told = read.into();
+    if out.len() < 4 {
+        return 27;
+    }
+    put_answer(out, told)
 }

@@ -9,17 +9,17 @@ ghost use Rattle.opening.specs.Open as opening;
 ghost use Rattle.exports.specs.SchedulerAnswer.{truth, given, changed_by, dispatched_by, given_all};
 ghost use Rattle.exports.specs.RecordCall.{read_by};
 
-use super::scheduler_answer::put_answer;
+use super::scheduler_answer::{answer, change, put_answer};
 
 #[unsafe(no_mangle)]
 pub extern "C" fn scheduler_create_thread(words: &mut [u64], priority: u64, out: &mut [u64]) -> u64
     ensures { given result words.new out.new ≡ changed_by words.old out.old (called words.old (call.CreateThread priority)) }
 {
-    if out.len() < 4 {
-        return 27;
-    }
-    let answer = scheduler::changes::create_thread(words, priority);
-    put_answer(out, answer.into())
+    change(
+        words,
+        out,
+        |w| scheduler::changes::create_thread(w, priority),
+    )
 }
 
 #[unsafe(no_mangle)]
@@ -31,44 +31,32 @@ pub extern "C" fn scheduler_priority(
 ) -> u64
     ensures { given result words.new out.new ≡ changed_by words.old out.old (called words.old (call.Priority id priority)) }
 {
-    if out.len() < 4 {
-        return 27;
-    }
-    let answer = scheduler::changes::priority(words, id, priority);
-    put_answer(out, answer.into())
+    change(
+        words,
+        out,
+        |w| scheduler::changes::priority(w, id, priority),
+    )
 }
 
 #[unsafe(no_mangle)]
 pub extern "C" fn scheduler_yield_current(words: &mut [u64], out: &mut [u64]) -> u64
     ensures { given result words.new out.new ≡ changed_by words.old out.old (called words.old call.YieldCurrent) }
 {
-    if out.len() < 4 {
-        return 27;
-    }
-    let answer = scheduler::changes::yield_current(words);
-    put_answer(out, answer.into())
+    change(words, out, |w| scheduler::changes::yield_current(w))
 }
 
 #[unsafe(no_mangle)]
 pub extern "C" fn scheduler_terminate(words: &mut [u64], status: u32, out: &mut [u64]) -> u64
     ensures { given result words.new out.new ≡ changed_by words.old out.old (called words.old (call.Terminate status)) }
 {
-    if out.len() < 4 {
-        return 27;
-    }
-    let answer = scheduler::changes::terminate(words, status);
-    put_answer(out, answer.into())
+    change(words, out, |w| scheduler::changes::terminate(w, status))
 }
 
 #[unsafe(no_mangle)]
 pub extern "C" fn scheduler_initialize_mutex(words: &mut [u64], key: u64, out: &mut [u64]) -> u64
     ensures { given result words.new out.new ≡ changed_by words.old out.old (called words.old (call.InitializeMutex key)) }
 {
-    if out.len() < 4 {
-        return 27;
-    }
-    let answer = scheduler::changes::initialize_mutex(words, key);
-    put_answer(out, answer.into())
+    change(words, out, |w| scheduler::changes::initialize_mutex(w, key))
 }
 
 #[unsafe(no_mangle)]
@@ -81,22 +69,18 @@ pub extern "C" fn scheduler_adopt_mutex(
 ) -> u64
     ensures { given result words.new out.new ≡ changed_by words.old out.old (called words.old (call.AdoptMutex key (optional (truth owned) owner))) }
 {
-    if out.len() < 4 {
-        return 27;
-    }
-    let answer = scheduler::changes::adopt_mutex(words, key, owned != 0, owner);
-    put_answer(out, answer.into())
+    change(
+        words,
+        out,
+        |w| scheduler::changes::adopt_mutex(w, key, (owned != 0).then_some(owner)),
+    )
 }
 
 #[unsafe(no_mangle)]
 pub extern "C" fn scheduler_release_mutex(words: &mut [u64], key: u64, out: &mut [u64]) -> u64
     ensures { given result words.new out.new ≡ changed_by words.old out.old (called words.old (call.ReleaseMutex key)) }
 {
-    if out.len() < 4 {
-        return 27;
-    }
-    let answer = scheduler::changes::release_mutex(words, key);
-    put_answer(out, answer.into())
+    change(words, out, |w| scheduler::changes::release_mutex(w, key))
 }
 
 #[unsafe(no_mangle)]
@@ -109,33 +93,25 @@ pub extern "C" fn scheduler_initialize_event(
 ) -> u64
     ensures { given result words.new out.new ≡ changed_by words.old out.old (called words.old (call.InitializeEvent key (truth manual) (truth signaled))) }
 {
-    if out.len() < 4 {
-        return 27;
-    }
-    let answer = scheduler::changes::initialize_event(words, key, manual != 0, signaled != 0);
-    put_answer(out, answer.into())
+    change(
+        words,
+        out,
+        |w| scheduler::changes::initialize_event(w, key, manual != 0, signaled != 0),
+    )
 }
 
 #[unsafe(no_mangle)]
 pub extern "C" fn scheduler_set_event(words: &mut [u64], key: u64, out: &mut [u64]) -> u64
     ensures { given result words.new out.new ≡ changed_by words.old out.old (called words.old (call.SetEvent key)) }
 {
-    if out.len() < 4 {
-        return 27;
-    }
-    let answer = scheduler::changes::set_event(words, key);
-    put_answer(out, answer.into())
+    change(words, out, |w| scheduler::changes::set_event(w, key))
 }
 
 #[unsafe(no_mangle)]
 pub extern "C" fn scheduler_reset_event(words: &mut [u64], key: u64, out: &mut [u64]) -> u64
     ensures { given result words.new out.new ≡ changed_by words.old out.old (called words.old (call.ResetEvent key)) }
 {
-    if out.len() < 4 {
-        return 27;
-    }
-    let answer = scheduler::changes::reset_event(words, key);
-    put_answer(out, answer.into())
+    change(words, out, |w| scheduler::changes::reset_event(w, key))
 }
 
 #[unsafe(no_mangle)]
@@ -148,11 +124,11 @@ pub extern "C" fn scheduler_retire_event_backing(
 ) -> u64
     ensures { given result words.new out.new ≡ changed_by words.old out.old (called words.old (call.RetireEventBacking base size layout)) }
 {
-    if out.len() < 4 {
-        return 27;
-    }
-    let answer = scheduler::changes::retire_event_backing(words, base, size, layout);
-    put_answer(out, answer.into())
+    change(
+        words,
+        out,
+        |w| scheduler::changes::retire_event_backing(w, base, size, layout),
+    )
 }
 
 #[unsafe(no_mangle)]
@@ -164,77 +140,53 @@ pub extern "C" fn scheduler_delay_until(
 ) -> u64
     ensures { given result words.new out.new ≡ changed_by words.old out.old (called words.old (call.DelayUntil deadline irql)) }
 {
-    if out.len() < 4 {
-        return 27;
-    }
-    let answer = scheduler::changes::delay_until(words, deadline, irql);
-    put_answer(out, answer.into())
+    change(
+        words,
+        out,
+        |w| scheduler::changes::delay_until(w, deadline, irql),
+    )
 }
 
 #[unsafe(no_mangle)]
 pub extern "C" fn scheduler_advance_to(words: &mut [u64], time: u64, out: &mut [u64]) -> u64
     ensures { given result words.new out.new ≡ changed_by words.old out.old (called words.old (call.AdvanceTo time)) }
 {
-    if out.len() < 4 {
-        return 27;
-    }
-    let answer = scheduler::changes::advance_to(words, time);
-    put_answer(out, answer.into())
+    change(words, out, |w| scheduler::changes::advance_to(w, time))
 }
 
 #[unsafe(no_mangle)]
 pub extern "C" fn scheduler_current(words: &[u64], out: &mut [u64]) -> u64
     ensures { given result words.now out.new ≡ read_by kind.plain words.now out.old (called words.now (call.Reads call.Current)) }
 {
-    if out.len() < 4 {
-        return 27;
-    }
-    let answer = scheduler::reads::current(words);
-    put_answer(out, answer.into())
+    answer(out, scheduler::reads::current(words))
 }
 
 #[unsafe(no_mangle)]
 pub extern "C" fn scheduler_mutex_owner(words: &[u64], key: u64, out: &mut [u64]) -> u64
     ensures { given result words.now out.new ≡ read_by kind.plain words.now out.old (called words.now (call.Reads (call.MutexOwner key))) }
 {
-    if out.len() < 4 {
-        return 27;
-    }
-    let answer = scheduler::reads::mutex_owner(words, key);
-    put_answer(out, answer.into())
+    answer(out, scheduler::reads::mutex_owner(words, key))
 }
 
 #[unsafe(no_mangle)]
 pub extern "C" fn scheduler_mutex_waiters(words: &[u64], key: u64, out: &mut [u64]) -> u64
     ensures { given result words.now out.new ≡ read_by kind.plain words.now out.old (called words.now (call.Reads (call.MutexWaiters key))) }
 {
-    if out.len() < 4 {
-        return 27;
-    }
-    let answer = scheduler::reads::mutex_waiters(words, key);
-    put_answer(out, answer.into())
+    answer(out, scheduler::reads::mutex_waiters(words, key))
 }
 
 #[unsafe(no_mangle)]
 pub extern "C" fn scheduler_event_state(words: &[u64], key: u64, out: &mut [u64]) -> u64
     ensures { given result words.now out.new ≡ read_by kind.plain words.now out.old (called words.now (call.Reads (call.EventState key))) }
 {
-    if out.len() < 4 {
-        return 27;
-    }
-    let answer = scheduler::reads::event_state(words, key);
-    put_answer(out, answer.into())
+    answer(out, scheduler::reads::event_state(words, key))
 }
 
 #[unsafe(no_mangle)]
 pub extern "C" fn scheduler_event_states(words: &[u64], position: u64, out: &mut [u64]) -> u64
     ensures { given result words.now out.new ≡ read_by kind.plain words.now out.old (called words.now (call.Reads (call.EventStates position))) }
 {
-    if out.len() < 4 {
-        return 27;
-    }
-    let answer = scheduler::reads::event_states(words, position);
-    put_answer(out, answer.into())
+    answer(out, scheduler::reads::event_states(words, position))
 }
 
 #[unsafe(no_mangle)]
@@ -247,11 +199,10 @@ pub extern "C" fn scheduler_require_event_release(
 ) -> u64
     ensures { given result words.now out.new ≡ read_by kind.plain words.now out.old (called words.now (call.Reads (call.RequireEventRelease base size layout))) }
 {
-    if out.len() < 4 {
-        return 27;
-    }
-    let answer = scheduler::reads::require_event_release(words, base, size, layout);
-    put_answer(out, answer.into())
+    answer(
+        out,
+        scheduler::reads::require_event_release(words, base, size, layout),
+    )
 }
 
 #[unsafe(no_mangle)]
@@ -263,11 +214,7 @@ pub extern "C" fn scheduler_words_needed(
 ) -> u64
     ensures { given result out.old out.new ≡ read_by kind.plain out.old out.old (opening.sized threads objects dpcs) }
 {
-    if out.len() < 4 {
-        return 27;
-    }
-    let answer = opening::words_needed(threads, objects, dpcs);
-    put_answer(out, answer.into())
+    answer(out, opening::words_needed(threads, objects, dpcs))
 }
 
 #[unsafe(no_mangle)]
@@ -281,11 +228,11 @@ pub extern "C" fn scheduler_open(
 ) -> u64
     ensures { given result words.new out.new ≡ changed_by words.old out.old (called words.old (call.Open (length words.old) priority threads objects dpcs)) }
 {
-    if out.len() < 4 {
-        return 27;
-    }
-    let answer = scheduler::changes::open(words, priority, threads, objects, dpcs);
-    put_answer(out, answer.into())
+    change(
+        words,
+        out,
+        |w| scheduler::changes::open(w, priority, threads, objects, dpcs),
+    )
 }
 
 #[unsafe(no_mangle)]
@@ -300,11 +247,11 @@ pub extern "C" fn scheduler_wait(
 ) -> u64
     ensures { given result words.new out.new ≡ changed_by words.old out.old (called words.old (call.Wait list.now (truth all) (optional (truth timed) deadline) irql)) }
 {
-    if out.len() < 4 {
-        return 27;
-    }
-    let answer = scheduler::changes::wait(words, list, all != 0, timed != 0, deadline, irql);
-    put_answer(out, answer.into())
+    change(
+        words,
+        out,
+        |w| scheduler::changes::wait(w, list, all != 0, (timed != 0).then_some(deadline), irql),
+    )
 }
 
 #[unsafe(no_mangle)]

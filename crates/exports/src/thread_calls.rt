@@ -6,28 +6,20 @@ ghost use Rattle.calls.specs.Guard as kind;
 ghost use Rattle.exports.specs.SchedulerAnswer.{given};
 ghost use Rattle.exports.specs.RecordCall.{read_by};
 
-use super::record_answer::{put_place_answer, put_thread_answer};
+use super::record_answer::{place_answer, thread_answer};
 
 #[unsafe(no_mangle)]
 pub extern "C" fn scheduler_thread(words: &[u64], id: u64, out: &mut [u64]) -> u64
     ensures { given result words.now out.new ≡ read_by kind.threads words.now out.old (called words.now (call.Reads (call.Thread id))) }
 {
-    if out.len() < 24 {
-        return 27;
-    }
-    let answer = scheduler::thread_reads::thread(words, id);
-    put_thread_answer(out, answer)
+    thread_answer(out, scheduler::thread_reads::thread(words, id))
 }
 
 #[unsafe(no_mangle)]
 pub extern "C" fn scheduler_threads(words: &[u64], position: u64, out: &mut [u64]) -> u64
     ensures { given result words.now out.new ≡ read_by kind.threads words.now out.old (called words.now (call.Reads (call.Threads position))) }
 {
-    if out.len() < 24 {
-        return 27;
-    }
-    let answer = scheduler::thread_reads::threads(words, position);
-    put_thread_answer(out, answer)
+    thread_answer(out, scheduler::thread_reads::threads(words, position))
 }
 
 #[unsafe(no_mangle)]
@@ -39,9 +31,8 @@ pub extern "C" fn scheduler_waited_object(
 ) -> u64
     ensures { given result words.now out.new ≡ read_by kind.places words.now out.old (called words.now (call.Reads (call.WaitedObject id position))) }
 {
-    if out.len() < 24 {
-        return 27;
-    }
-    let answer = scheduler::thread_reads::waited_object(words, id, position);
-    put_place_answer(out, answer)
+    place_answer(
+        out,
+        scheduler::thread_reads::waited_object(words, id, position),
+    )
 }

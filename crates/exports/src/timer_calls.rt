@@ -9,8 +9,8 @@ ghost use Rattle.images.specs.Place.{architecture_of, backing_of};
 ghost use Rattle.exports.specs.SchedulerAnswer.{truth, given, changed_by};
 ghost use Rattle.exports.specs.RecordCall.{read_by};
 
-use super::record_answer::put_timer_answer;
-use super::scheduler_answer::put_answer;
+use super::record_answer::timer_answer;
+use super::scheduler_answer::{answer, change};
 
 #[unsafe(no_mangle)]
 pub extern "C" fn scheduler_initialize_timer(
@@ -26,13 +26,13 @@ pub extern "C" fn scheduler_initialize_timer(
 ) -> u64
     ensures { given result words.new out.new ≡ changed_by words.old out.old (called words.old (call.InitializeTimer address (architecture_of architecture) (backing_of backing base size mapped) (truth manual))) }
 {
-    if out.len() < 4 {
-        return 27;
-    }
     let a = images::architecture_of(architecture);
     let b = images::backing_of(backing, base, size, mapped);
-    let answer = scheduler::timer_calls::initialize_timer(words, address, a, b, manual != 0);
-    put_answer(out, answer.into())
+    change(
+        words,
+        out,
+        |w| scheduler::timer_calls::initialize_timer(w, address, a, b, manual != 0),
+    )
 }
 
 #[unsafe(no_mangle)]
@@ -50,13 +50,13 @@ pub extern "C" fn scheduler_initialize_dpc(
 ) -> u64
     ensures { given result words.new out.new ≡ changed_by words.old out.old (called words.old (call.InitializeDpc address (architecture_of architecture) (backing_of backing base size mapped) routine context)) }
 {
-    if out.len() < 4 {
-        return 27;
-    }
     let a = images::architecture_of(architecture);
     let b = images::backing_of(backing, base, size, mapped);
-    let answer = scheduler::timer_calls::initialize_dpc(words, address, a, b, routine, context);
-    put_answer(out, answer.into())
+    change(
+        words,
+        out,
+        |w| scheduler::timer_calls::initialize_dpc(w, address, a, b, routine, context),
+    )
 }
 
 #[unsafe(no_mangle)]
@@ -71,11 +71,11 @@ pub extern "C" fn scheduler_set_timer(
 ) -> u64
     ensures { given result words.new out.new ≡ changed_by words.old out.old (called words.old (call.SetTimer address due (truth absolute) period dpc)) }
 {
-    if out.len() < 4 {
-        return 27;
-    }
-    let answer = scheduler::timer_calls::set_timer(words, address, due, absolute != 0, period, dpc);
-    put_answer(out, answer.into())
+    change(
+        words,
+        out,
+        |w| scheduler::timer_calls::set_timer(w, address, due, absolute != 0, period, dpc),
+    )
 }
 
 // A due of -d is d ticks from now; a due that is not negative is a time.
@@ -90,22 +90,22 @@ pub extern "C" fn scheduler_set_timer_signed(
 ) -> u64
     ensures { given result words.new out.new ≡ changed_by words.old out.old (called words.old (call.SetTimerSigned address due period dpc)) }
 {
-    if out.len() < 4 {
-        return 27;
-    }
-    let answer = scheduler::timer_calls::set_timer_signed(words, address, due, period, dpc);
-    put_answer(out, answer.into())
+    change(
+        words,
+        out,
+        |w| scheduler::timer_calls::set_timer_signed(w, address, due, period, dpc),
+    )
 }
 
 #[unsafe(no_mangle)]
 pub extern "C" fn scheduler_cancel_timer(words: &mut [u64], address: u64, out: &mut [u64]) -> u64
     ensures { given result words.new out.new ≡ changed_by words.old out.old (called words.old (call.CancelTimer address)) }
 {
-    if out.len() < 4 {
-        return 27;
-    }
-    let answer = scheduler::timer_calls::cancel_timer(words, address);
-    put_answer(out, answer.into())
+    change(
+        words,
+        out,
+        |w| scheduler::timer_calls::cancel_timer(w, address),
+    )
 }
 
 #[unsafe(no_mangle)]
@@ -117,11 +117,11 @@ pub extern "C" fn scheduler_retire_timer_backing(
 ) -> u64
     ensures { given result words.new out.new ≡ changed_by words.old out.old (called words.old (call.RetireTimerBacking address size)) }
 {
-    if out.len() < 4 {
-        return 27;
-    }
-    let answer = scheduler::timer_calls::retire_timer_backing(words, address, size);
-    put_answer(out, answer.into())
+    change(
+        words,
+        out,
+        |w| scheduler::timer_calls::retire_timer_backing(w, address, size),
+    )
 }
 
 #[unsafe(no_mangle)]
@@ -133,22 +133,17 @@ pub extern "C" fn scheduler_require_timer_release(
 ) -> u64
     ensures { given result words.now out.new ≡ read_by kind.plain words.now out.old (called words.now (call.Reads (call.RequireTimerRelease address size))) }
 {
-    if out.len() < 4 {
-        return 27;
-    }
-    let answer = scheduler::timer_calls::require_timer_release(words, address, size);
-    put_answer(out, answer.into())
+    answer(
+        out,
+        scheduler::timer_calls::require_timer_release(words, address, size),
+    )
 }
 
 #[unsafe(no_mangle)]
 pub extern "C" fn scheduler_timer_initializations(words: &[u64], out: &mut [u64]) -> u64
     ensures { given result words.now out.new ≡ read_by kind.plain words.now out.old (called words.now (call.Reads call.TimerInitializations)) }
 {
-    if out.len() < 4 {
-        return 27;
-    }
-    let answer = scheduler::timer_calls::timer_initializations(words);
-    put_answer(out, answer.into())
+    answer(out, scheduler::timer_calls::timer_initializations(words))
 }
 
 #[unsafe(no_mangle)]
@@ -160,11 +155,10 @@ pub extern "C" fn scheduler_timer_read_overlap(
 ) -> u64
     ensures { given result words.now out.new ≡ read_by kind.plain words.now out.old (called words.now (call.Reads (call.TimerReadOverlap address size))) }
 {
-    if out.len() < 4 {
-        return 27;
-    }
-    let answer = scheduler::timer_calls::timer_read_overlap(words, address, size);
-    put_answer(out, answer.into())
+    answer(
+        out,
+        scheduler::timer_calls::timer_read_overlap(words, address, size),
+    )
 }
 
 #[unsafe(no_mangle)]
@@ -176,42 +170,29 @@ pub extern "C" fn scheduler_timer_metadata_overlap(
 ) -> u64
     ensures { given result words.now out.new ≡ read_by kind.plain words.now out.old (called words.now (call.Reads (call.TimerMetadataOverlap address size))) }
 {
-    if out.len() < 4 {
-        return 27;
-    }
-    let answer = scheduler::timer_calls::timer_metadata_overlap(words, address, size);
-    put_answer(out, answer.into())
+    answer(
+        out,
+        scheduler::timer_calls::timer_metadata_overlap(words, address, size),
+    )
 }
 
 #[unsafe(no_mangle)]
 pub extern "C" fn scheduler_timer(words: &[u64], address: u64, out: &mut [u64]) -> u64
     ensures { given result words.now out.new ≡ read_by kind.timers words.now out.old (called words.now (call.Reads (call.TimerAt address))) }
 {
-    if out.len() < 24 {
-        return 27;
-    }
-    let answer = scheduler::timer_calls::timer(words, address).map(Some);
-    put_timer_answer(out, answer)
+    timer_answer(out, scheduler::timer_calls::timer(words, address).map(Some))
 }
 
 #[unsafe(no_mangle)]
 pub extern "C" fn scheduler_timers(words: &[u64], position: u64, out: &mut [u64]) -> u64
     ensures { given result words.now out.new ≡ read_by kind.timers words.now out.old (called words.now (call.Reads (call.Timers position))) }
 {
-    if out.len() < 24 {
-        return 27;
-    }
-    let answer = scheduler::timer_calls::timers(words, position);
-    put_timer_answer(out, answer)
+    timer_answer(out, scheduler::timer_calls::timers(words, position))
 }
 
 #[unsafe(no_mangle)]
 pub extern "C" fn scheduler_pending_timer_dpc(words: &[u64], out: &mut [u64]) -> u64
     ensures { given result words.now out.new ≡ read_by kind.timers words.now out.old (called words.now (call.Reads call.PendingTimerDpc)) }
 {
-    if out.len() < 24 {
-        return 27;
-    }
-    let answer = scheduler::timer_calls::pending_timer_dpc(words);
-    put_timer_answer(out, answer)
+    timer_answer(out, scheduler::timer_calls::pending_timer_dpc(words))
 }

@@ -4,7 +4,7 @@
 
 ghost use Rattle.std.specs.Prelude.{◌≡◌, ◌≤◌};
 ghost use Rattle.form_dpc.specs.Queue.{counted};
-ghost use Rattle.form_chains.specs.Chain.{sequence_at, sequences_rise, has_priority, member_passes, chain_size, waiters_stand_as, flag, bit_passes, queue_size, ready_size, ready_stand_as};
+ghost use Rattle.form_chains.specs.Chain.{sequence_at, sequences_rise, has_priority, member_passes, chain_size, waiters_stand_as, bit_passes, queue_size, ready_size, ready_stand_as};
 
 use chains::{Chain, ready};
 use form_dpc::queue;
@@ -26,12 +26,12 @@ fn sequence_at(w: &[u64], id: u64) -> u64
 pub fn sequences_rise(w: &[u64]) -> bool
     ensures { result ≡ sequences_rise w.now }
 {
-    let mut at = chains::first_of(w, ready::waiters_chain());
+    let mut at = ready::waiters_chain().front(w);
     for _ in 0..chains::MOST {
         if at == 0 {
             return true;
         }
-        let next = chains::next_of(w, ready::waiters_chain(), at);
+        let next = ready::waiters_chain().after(w, at);
         if sequence_at(w, next) <= sequence_at(w, at) {
             return false;
         }
@@ -61,7 +61,7 @@ fn chain_size(w: &[u64], c: Chain, state: u64, p: u64) -> Option<u64>
     ensures { result ≡ counted (chain_size w.now c state p) }
 {
     let mut before: u64 = 0;
-    let mut at = chains::first_of(w, c);
+    let mut at = c.front(w);
     for n in 0..chains::MOST as u64 {
         if at == 0 {
             return queue::chain_end(w, c, before, n);
@@ -70,7 +70,7 @@ fn chain_size(w: &[u64], c: Chain, state: u64, p: u64) -> Option<u64>
             return None;
         }
         before = at;
-        at = chains::next_of(w, c, at);
+        at = c.after(w, at);
     }
     None
 }
@@ -82,15 +82,8 @@ pub fn waiters_stand_once(w: &[u64], waiting: u64) -> bool
     chain_size(w, ready::waiters_chain(), threads::WAITING, 0) == Some(waiting)
 }
 
-#[tactic(auto, unfolding(crate::specs::Chain::flag))]
-fn flag(id: u64) -> u64
-    ensures { result ≡ flag id }
-{
-    u64::from(id != 0)
-}
-
 // The bit of priority `p` is set exactly if its queue has a last thread.
-#[tactic(auto, unfolding(crate::specs::Chain::bit_passes))]
+#[tactic(auto, unfolding(crate::specs::Chain::bit_passes, crate::specs::Chain::flag))]
 fn bit_passes(w: &[u64], p: u64) -> bool
     requires { p ≤ 31 }
     ensures { result ≡ bit_passes w.now p }
@@ -98,7 +91,7 @@ fn bit_passes(w: &[u64], p: u64) -> bool
     let c = ready::ready_chain(p);
     let last = words::get(w, c.last as usize);
     let m = words::get(w, layout::READY);
-    words::bit_at(m, p) == flag(last)
+    words::bit_at(m, p) == u64::from(last != 0)
 }
 
 #[tactic(auto, unfolding(crate::specs::Chain::queue_size))]

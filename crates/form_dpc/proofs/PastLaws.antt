@@ -7,7 +7,7 @@ use mathlib.Core.Bool.{Bool, cond, true, false, not}
 use mathlib.Core.Path.{◌≡◌, refl, ap, sym, ◌∙◌}
 use lib.ListN.{get_or}
 use lib.Dec.{eqb, leb, ltb}
-use borrow.Author.Tests.{eq-eqb, ne_eqb, le-ltb, lt-ltb, ltb-true, ltb-false}
+use borrow.Author.Tests.{eq-eqb, ne_eqb, le-ltb, ltb-true, ltb-false}
 use Rattle.words.specs.Layout as at
 use Rattle.words.specs.Layout.{objects_at, entry_at}
 use Rattle.tables.specs.declared.Part.{Part}
@@ -23,27 +23,6 @@ less_one k = omega arith
 rises-above : (w : List ℕ) (base i : ℕ) → 0 < i → key_rises w base i ≡ true → key_at w base (i - 1) < key_at w base i
 unfolding key_rises
 rises-above w base i h e = let z : i ≡ 0 → ⊥ = λ q. omega arith in ltb-true _ _ (simp (ne_eqb i 0 z) at e)
-
--- ---- as the code counts
-
-pub past-none : (m : ℕ) (w : List ℕ) (base i key : ℕ) → m ≤ 0 → past_in m w base i key ≡ i
-unfolding past_in
-past-none zero w base i key h = refl
-past-none (suc m) w base i key h = absurd (omega arith)
-
-pub past_stop : (m : ℕ) (w : List ℕ) (base i key : ℕ) → key ≤ key_at w base i → past_in m w base i key ≡ i
-unfolding past_in
-past_stop zero w base i key h = refl
-past_stop (suc m) w base i key h = simp (le-ltb _ _ h)
-
-past_more : (m : ℕ) (w : List ℕ) (base i key : ℕ) → 0 < m → key_at w base i < key → past_in m w base i key ≡ past_in (m - 1) w base (i + 1) key
-unfolding past_in
-past_more zero w base i key h l = absurd (omega arith)
-past_more (suc m) w base i key h l = simp (lt-ltb _ _ l, less_one m)
-
-pub past-step : (n : ℕ) (w : List ℕ) (base i key : ℕ) {to : ℕ} → i < n → key_at w base i < key → past_in (n - i) w base i key ≡ to
-    → past_in (n - (i + 1)) w base (i + 1) key ≡ to
-past-step n w base i key h l e = let z : n - (i + 1) ≡ n - i - 1 = omega arith in cc (past_more (n - i) w base i key (omega arith) l)
 
 -- ---- what is passed is below, and what is not is not
 

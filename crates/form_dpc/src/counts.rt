@@ -35,8 +35,8 @@ fn active_passes(w: &[u64], active: u64) -> bool
     if address == 0 {
         return active == 0;
     }
-    let at = objects::find_dpc(w, address);
-    at != 0 && dpc_records::RUNNING <= words::get_in(w, at, layout::PHASE)
+    objects::find_dpc(w, address).is_some_and(|at| dpc_records::RUNNING
+        <= words::get_in(w, at, layout::PHASE))
 }
 
 // Document 01: starts less restorations is the active work, at most one.

@@ -87,11 +87,12 @@ fn is_named_rightly(w: &[u64], at: usize) -> bool
     ensures { result ≡ named_rightly w.now at }
 {
     let key = words::get_in(w, at, layout::NAMED_BY);
-    if key == 0 {
-        return true;
-    }
-    let place = objects::place_of(w, objects::TIMER, key);
-    place != 0 && timer::has_dpc(w, place, words::get(w, at))
+    key == 0
+        || objects::place_of(w, objects::TIMER, key).is_some_and(|place| timer::has_dpc(
+            w,
+            place,
+            words::get(w, at),
+        ))
 }
 
 #[tactic(auto, unfolding(crate::specs::Dpc::dpc_passes_at))]

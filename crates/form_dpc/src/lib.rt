@@ -17,18 +17,13 @@ pub fn key_rises(w: &[u64], base: usize, i: u64) -> bool
     i == 0 || tables::key_at(w, base, i - 1) < tables::key_at(w, base, i)
 }
 
-// The first record of a table of `n`, from record `from` on, whose key is not below `key`; `n` where there is none.
+// The first record of a table of `n`, from record `from` on, whose key is not below `key`; the end where there is none.
 fn past(w: &[u64], base: usize, n: u64, from: u64, key: u64) -> u64
     ensures { result ≡ past_in (n - from) w.now base from key }
 {
-    let mut i = from;
-    while i < n {
-        if key <= tables::key_at(w, base, i) {
-            return i;
-        }
-        i += 1;
-    }
-    i
+    (from..n)
+        .find(|i| key <= tables::key_at(w, base, *i))
+        .unwrap_or(from.max(n))
 }
 
 // Words that say nothing hold 0: the mapped bytes of an image.
@@ -55,5 +50,5 @@ fn location_passes(w: &[u64], at: usize, from: usize, size: u64) -> bool
     n <= 1
         && kind <= 1
         && mapped_passes(kind, mapped)
-        && images::location_refusal(words::get(w, at), size, images::architecture_of(n), b) == 0
+        && images::is_located(words::get(w, at), size, images::architecture_of(n), b)
 }

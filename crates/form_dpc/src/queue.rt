@@ -36,7 +36,7 @@ fn queue_size(w: &[u64]) -> Option<u64>
 {
     let c = record::queue_chain(w);
     let mut before: u64 = 0;
-    let mut at = chains::first_of(w, c);
+    let mut at = c.front(w);
     for n in 0..STEPS {
         if at == 0 {
             return chain_end(w, c, before, n);
@@ -45,7 +45,7 @@ fn queue_size(w: &[u64]) -> Option<u64>
             return None;
         }
         before = at;
-        at = chains::next_of(w, c, at);
+        at = c.after(w, at);
     }
     None
 }

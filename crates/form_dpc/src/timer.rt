@@ -47,8 +47,7 @@ pub fn numbers_pass(w: &[u64], at: usize) -> bool
 fn serves_it(w: &[u64], dpc: u64, key: u64) -> bool
     ensures { result ≡ serves_it w.now dpc key }
 {
-    let place = objects::find_dpc(w, dpc);
-    place != 0 && words::get_in(w, place, layout::NAMED_BY) == key
+    objects::find_dpc(w, dpc).is_some_and(|place| words::get_in(w, place, layout::NAMED_BY) == key)
 }
 
 // Document 01: an inserted timer's DPC, if any, exists and serves no other. A DPC names one timer, so that two timers cannot

@@ -62,7 +62,7 @@ fn wait_passes(w: &[u64], id: u64) -> bool
     words::get_in(w, at, layout::WAIT_ALL) <= 1
         && words::get_in(w, at, layout::HAS_DEADLINE) <= 1
         && words::get_in(w, at, layout::WAIT_COUNT) <= 64
-        && !lists::has_bad_kind(w, threads::places_at(id), threads::count_of(w, id))
+        && !lists::places(w, id).has_bad_kind()
 }
 
 // A thread that waits for no object is delayed, until a time.
@@ -96,8 +96,7 @@ fn runs_if_current(w: &[u64], id: u64) -> bool
 fn waits_for_known(w: &[u64], id: u64) -> bool
     ensures { result ≡ waits_for_known w.now id }
 {
-    !has_state(w, id, threads::WAITING)
-        || !lists::has_unknown(w, w, threads::places_at(id), threads::count_of(w, id))
+    !has_state(w, id, threads::WAITING) || !lists::places(w, id).has_unknown(w)
 }
 
 // Document 01: no wait list names an object twice.
@@ -105,8 +104,7 @@ fn waits_for_known(w: &[u64], id: u64) -> bool
 fn waits_for_each_once(w: &[u64], id: u64) -> bool
     ensures { result ≡ waits_for_each_once w.now id }
 {
-    !has_state(w, id, threads::WAITING)
-        || !lists::has_duplicate(w, threads::places_at(id), threads::count_of(w, id))
+    !has_state(w, id, threads::WAITING) || !lists::places(w, id).has_duplicate()
 }
 
 #[tactic(auto, unfolding(crate::specs::Thread::thread_passes))]

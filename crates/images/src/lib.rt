@@ -3,7 +3,7 @@
 
 pub mod field;
 
-ghost use Rattle.std.specs.Prelude.{◌≡◌, ◌≤◌, if◌then◌else◌};
+ghost use Rattle.std.specs.Prelude.{◌≡◌, ◌==◌, ◌≤◌, if◌then◌else◌};
 ghost use Rattle.images.specs.Place.{
   architecture_number,
   architecture_of,
@@ -281,30 +281,17 @@ pub fn is_outside(address: u64, end: u64, b: TimerBacking) -> bool
     base + length < end
 }
 
-// 15 where `size` bytes at `address` are no place for a timer or a DPC of that architecture in that memory, else 0.
-pub fn location_refusal(address: u64, size: u64, a: Architecture, b: TimerBacking) -> u64
-    ensures { result ≡ location_refusal «address» «size» a b }
+// Whether `size` bytes at `address` are a place for a timer or a DPC of that architecture in that memory.
+#[tactic(auto, unfolding(crate::specs::Place::location_refusal))]
+pub fn is_located(address: u64, size: u64, a: Architecture, b: TimerBacking) -> bool
+    ensures { result ≡ (location_refusal «address» «size» a b == 0) }
 {
-    if address == 0 {
-        return 15;
-    }
-    if u64::MAX - address < size {
-        return 15;
-    }
-    if is_short(b) {
-        return 15;
-    }
-    if address % a.width() != 0 {
-        return 15;
-    }
-    let end = address + size;
-    if ends_past(end, a) {
-        return 15;
-    }
-    if is_outside(address, end, b) {
-        return 15;
-    }
-    0
+    address != 0
+        && size <= u64::MAX - address
+        && !is_short(b)
+        && address % a.width() == 0
+        && !ends_past(address + size, a)
+        && !is_outside(address, address + size, b)
 }
 
 // A function of its own, since what an `if` in an argument gives is not known at the calls after it.

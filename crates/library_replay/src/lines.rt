@@ -3,7 +3,7 @@ ghost use Rattle.std.specs.Prelude.{◌≤◌, length};
 
 use replay_calls::named;
 use replay_state::{reads, show};
-use script_lex::lex;
+use script_lex::lex::Words;
 use std::io;
 
 // How many bytes of the present line have come, its number, how often its call is made, and how many mutexes are read.
@@ -31,13 +31,13 @@ const NUMBERS: usize = 160;
 fn numbers_of(line: &[u8], numbers: &mut [u64]) -> usize
     ensures { result ≤ length numbers.new }
 {
-    let mut at = lex::behind(line, 0);
+    let mut rest = Words::of(line).rest();
     for i in 0..numbers.len() {
-        if lex::is_end(line, at) {
+        if rest.is_end() {
             return i;
         }
-        numbers[i] = lex::number_at(line, at, u64::MAX).unwrap_or(0);
-        at = lex::behind(line, at);
+        numbers[i] = rest.number(u64::MAX).unwrap_or(0);
+        rest = rest.rest();
     }
     numbers.len()
 }
@@ -93,10 +93,11 @@ fn finish(
     let mut numbers = [0u64; NUMBERS];
     let count = numbers_of(line, &mut numbers);
     let numbers = &numbers[..count];
-    if lex::is_word(line, 0, b"times") {
+    let name = Words::of(line);
+    if name.is(b"times") {
         return Ok(next(p, words::get(numbers, 0), p.keys));
     }
-    if lex::is_word(line, 0, b"keys") {
+    if name.is(b"keys") {
         keep_keys(numbers, kept);
         return Ok(next(p, 1, count.min(show::KEYS)));
     }

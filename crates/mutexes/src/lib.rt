@@ -12,7 +12,6 @@ ghost use Rattle.mutexes.specs.Mutexes.{new_mutex, owner_of, mutex_refusal, init
 use answers::ThreadId;
 use answers::error::SchedulerError;
 use chains::ready;
-use objects::found;
 use waits::{lists, object};
 use words::layout;
 
@@ -41,7 +40,7 @@ fn owner_at(w: &[u64], at: usize) -> Option<ThreadId>
 fn owner_of(w: &[u64], key: u64) -> Option<ThreadId>
     ensures { result ≡ numbered (owner_of w.now key) }
 {
-    owner_at(w, found::object(w, objects::MUTEX, key)?)
+    owner_at(w, objects::place_of(w, objects::MUTEX, key)?)
 }
 
 // Whether the key can be a new mutex's, or the mutex that it is made anew.
@@ -83,7 +82,7 @@ fn is_live(w: &[u64], id: u64) -> bool
 fn check_known(w: &[u64], key: u64, owner: u64) -> Result<(), SchedulerError>
     ensures { refusal result ≡ known_refusal w.now key owner }
 {
-    match found::object(w, objects::MUTEX, key) {
+    match objects::place_of(w, objects::MUTEX, key) {
         None => check_mutex(w, key),
         Some(at) if words::get_in(w, at, layout::OWNER) == owner => Ok(()),
         Some(_) => Err(SchedulerError::NotOwner),
@@ -100,14 +99,13 @@ fn check_adopt(w: &[u64], key: u64, owner: Option<u64>) -> Result<(), SchedulerE
     }
 }
 
-// A live guest mutex made known; a known one stays as it is. `owner` counts where `owned` is true; else the mutex has none.
+// A live guest mutex made known; a known one stays as it is.
 #[tactic(auto, unfolding(crate::specs::Mutexes::adopted, crate::specs::Mutexes::adopt_refusal))]
-pub fn adopt_mutex(w: &mut [u64], key: u64, owned: bool, owner: u64) -> Result<(), SchedulerError>
-    ensures { outcome (done result) w.new ≡ adopted w.old key owned owner }
+pub fn adopt_mutex(w: &mut [u64], key: u64, owner: Option<u64>) -> Result<(), SchedulerError>
+    ensures { outcome (done result) w.new ≡ adopted w.old key (is_some owner) (unwrap_or owner 0) }
 {
-    let owner = owned.then_some(owner);
     check_adopt(w, key, owner)?;
-    if found::object(w, objects::MUTEX, key).is_none() {
+    if objects::place_of(w, objects::MUTEX, key).is_none() {
         objects::enter(w, key, new_mutex(owner.unwrap_or(0)));
     }
     Ok(())
@@ -117,7 +115,7 @@ pub fn adopt_mutex(w: &mut [u64], key: u64, owned: bool, owner: u64) -> Result<(
 pub fn mutex_owner(w: &[u64], key: u64) -> Result<Option<ThreadId>, SchedulerError>
     ensures { answer_of thread_or_none result ≡ owner_answer w.now key }
 {
-    let at = found::object(w, objects::MUTEX, key).ok_or(SchedulerError::Unknown)?;
+    let at = objects::place_of(w, objects::MUTEX, key).ok_or(SchedulerError::Unknown)?;
     Ok(owner_at(w, at))
 }
 
@@ -126,14 +124,7 @@ pub fn mutex_owner(w: &[u64], key: u64) -> Result<Option<ThreadId>, SchedulerErr
 fn waits_for(w: &[u64], id: u64, key: u64) -> u64
     ensures { result ≡ waits_for w.now id key }
 {
-    u64::from(lists::has_pair(
-        w,
-        threads::places_at(id),
-        0,
-        threads::count_of(w, id),
-        objects::MUTEX,
-        key,
-    ))
+    u64::from(lists::places(w, id).has(objects::MUTEX, key))
 }
 
 // How many threads wait for the mutex.
@@ -152,7 +143,7 @@ pub fn release_mutex(w: &mut [u64], key: u64) -> Result<(), SchedulerError>
     ensures { outcome (done result) w.new ≡ released w.old key }
 {
     let ThreadId(id) = threading::current(w).ok_or(SchedulerError::NoCurrentThread)?;
-    let at = found::object(w, objects::MUTEX, key).ok_or(SchedulerError::Unknown)?;
+    let at = objects::place_of(w, objects::MUTEX, key).ok_or(SchedulerError::Unknown)?;
     if words::get_in(w, at, layout::OWNER) != id {
         return Err(SchedulerError::NotOwner);
     }

@@ -1,14 +1,13 @@
 // Mutexes, events and timers in one table that rises by key; DPCs in another, that rises by address.
 #![tactic(auto)]
 
-pub mod found;
-
 ghost use Rattle.std.specs.Prelude.{◌≡◌};
-ghost use Rattle.objects.specs.Objects.{objects_base, dpcs_base, object_count, found_at, object_found, dpc_found, place_of, collides, full, put_object, inserted, entered};
+ghost use Rattle.objects.specs.Found.{nonzero, found};
+ghost use Rattle.objects.specs.Objects.{objects_base, dpcs_base, object_count, object_found, dpc_found, place_of, collides, full, put_object, inserted, entered};
 
 use words::layout;
 
-// The kinds, as a wait list has them.
+// The kinds, as a wait list has them: numbers, since lent words hold them, and the definitions speak of any word.
 pub const MUTEX: u64 = 0;
 
 pub const EVENT: u64 = 1;
@@ -45,71 +44,55 @@ pub fn count(w: &[u64]) -> u64
     words::get(w, layout::OBJECTS).min(4096)
 }
 
-// Where the record with the key stands, of `n` records from `base` on; 0 where there is none.
-fn found_at(w: &[u64], base: usize, n: u64, key: u64) -> usize
-    ensures { result ≡ found_at w.now base n key }
+// Where the record with the key stands, of `n` records from `base` on.
+#[tactic(auto, unfolding(crate::specs::Found::found))]
+fn found_at(w: &[u64], base: usize, n: u64, key: u64) -> Option<usize>
+    ensures { result ≡ found w.now base n key }
 {
     let i = tables::find(w, base, n, key);
-    if n <= i {
-        return 0;
+    if n <= i || tables::key_at(w, base, i) != key {
+        return None;
     }
-    if tables::key_at(w, base, i) != key {
-        return 0;
-    }
-    layout::entry_at(base, i)
+    Some(layout::entry_at(base, i))
 }
 
-// Where the object with the key stands, of any kind; 0 where there is none.
-pub fn find_object(w: &[u64], key: u64) -> usize
-    ensures { result ≡ object_found w.now key }
+// Where the object with the key stands, of any kind.
+pub fn find_object(w: &[u64], key: u64) -> Option<usize>
+    ensures { result ≡ nonzero (object_found w.now key) }
 {
     found_at(w, objects_base(w), words::get(w, layout::OBJECTS), key)
 }
 
-pub fn find_dpc(w: &[u64], address: u64) -> usize
-    ensures { result ≡ dpc_found w.now address }
+pub fn find_dpc(w: &[u64], address: u64) -> Option<usize>
+    ensures { result ≡ nonzero (dpc_found w.now address) }
 {
     found_at(w, dpcs_base(w), words::get(w, layout::DPCS), address)
 }
 
-// Where the object of this kind and key stands; 0 where there is none.
-pub fn place_of(w: &[u64], kind: u64, key: u64) -> usize
-    ensures { result ≡ place_of w.now kind key }
+// Where the object of this kind and key stands.
+#[tactic(auto, unfolding(crate::specs::Objects::place_of))]
+pub fn place_of(w: &[u64], kind: u64, key: u64) -> Option<usize>
+    ensures { result ≡ nonzero (place_of w.now kind key) }
 {
-    let at = find_object(w, key);
-    if at == 0 {
-        return 0;
-    }
-    if words::get_in(w, at, layout::KIND) != kind {
-        return 0;
-    }
-    at
+    find_object(w, key).filter(|at| words::get_in(w, *at, layout::KIND) == kind)
 }
 
 // Whether an object of another kind has the key, or a DPC.
+#[tactic(auto, unfolding(crate::specs::Objects::collides))]
 pub fn collision(w: &[u64], kind: u64, key: u64) -> bool
     ensures { result ≡ collides w.now kind key }
 {
-    let at = find_object(w, key);
-    if at == 0 {
-        return find_dpc(w, key) != 0;
-    }
-    if words::get_in(w, at, layout::KIND) != kind {
-        return true;
-    }
-    find_dpc(w, key) != 0
+    find_object(w, key).is_some_and(|at| words::get_in(w, at, layout::KIND) != kind)
+        || find_dpc(w, key).is_some()
 }
 
 // Whether the key is new and there is no room for a new object.
+#[tactic(auto, unfolding(crate::specs::Objects::full))]
 pub fn is_full(w: &[u64], key: u64) -> bool
     ensures { result ≡ full w.now key }
 {
-    let at = find_object(w, key);
-    if at != 0 {
-        return false;
-    }
-    let limit = words::get(w, layout::OBJECT_LIMIT);
-    limit <= words::get(w, layout::OBJECTS)
+    find_object(w, key).is_none()
+        && words::get(w, layout::OBJECT_LIMIT) <= words::get(w, layout::OBJECTS)
 }
 
 // The record at place `at` written whole.
@@ -138,14 +121,14 @@ fn insert(w: &mut [u64], key: u64, o: Object)
     words::put(w, layout::OBJECTS, n + 1);
 }
 
-// The object with the key as given: in its place where it is known, else new.
+// The object with the key as given: in its place where it is known, else new. `dpc_table::enter` is alike, but its record is another and its
+// table's numbers have links to follow.
+#[tactic(auto, unfolding(crate::specs::Objects::entered))]
 pub fn enter(w: &mut [u64], key: u64, o: Object)
     ensures { w.new ≡ entered w.old key o }
 {
-    let at = find_object(w, key);
-    if at == 0 {
-        insert(w, key, o);
-        return;
+    match find_object(w, key) {
+        Some(at) => put_object(w, at, key, o),
+        None => insert(w, key, o),
     }
-    put_object(w, at, key, o);
 }

@@ -27,9 +27,8 @@ use Rattle.script.specs.Wait.{Taken, taken, Paired, paired, item_of, kind_of, pa
 use Rattle.script.specs.Line.{text_length, text_line, read_line}
 use Rattle.script_lex.proofs.NumberLaws.{within}
 use Rattle.model.specs.Fits.{U64s, U64?, I32, BackingFits}
-use Rattle.calls.specs.Called.{optional}
 use Rattle.model.specs.Call as call
-use Rattle.commands.specs.Commands.{nothing, calls, asked}
+use Rattle.commands.specs.Commands.{argument, nothing, calls, asked}
 use Rattle.program.specs.Script.{AskedFits}
 
 -- ---- what is read of a word is within its limits, or nothing is read
@@ -321,8 +320,8 @@ adopt-ok : (ws : List (List ℕ)) → Ok (adopt_line ws)
 unfolding adopt_line owned_by asked
 adopt-ok ws =
     with-one _ most (number_of most (first ws)) (number_ok most (first ws)) (λ key h.
-    either (same (first (others ws)) name.none) _ _ (alone (command.AdoptMutex key false 0) (others (others ws)) (record { fits = λ l u. (h, tt); alike = λ l m. refl }))
-    (one (λ owner. Some (command.AdoptMutex key true owner)) most (others ws) (λ n a. record { fits = λ l u. (h, a); alike = λ l m. refl })))
+    either (same (first (others ws)) name.none) _ _ (alone (command.AdoptMutex key None) (others (others ws)) (record { fits = λ l u. (h, tt); alike = λ l m. refl }))
+    (one (λ owner. Some (command.AdoptMutex key (Some owner))) most (others ws) (λ n a. record { fits = λ l u. (h, a); alike = λ l m. refl })))
 
 mutex-ok : (ws : List (List ℕ)) → Ok (mutex_line ws)
 unfolding mutex_line asked
@@ -402,37 +401,37 @@ module _ (l : List ℕ) (u : U64s l) where
   no-wait : TakenOk (taken None l)
   no-wait = record { command = record { fits = unread.fits }; list = u }
 
-  deadline-fits : (timed : Bool) (deadline : ℕ) → deadline ≤ most → U64? (optional timed deadline)
-  deadline-fits true deadline h = h
-  deadline-fits false deadline h = tt
+  deadline-fits : (deadline : Option ℕ) → NumberOk most deadline → U64? (argument deadline)
+  deadline-fits (Some deadline) h = h
+  deadline-fits None h = tt
 
-  wait-ok : (all timed : Bool) (deadline irql : ℕ) → deadline ≤ most → irql ≤ 255 → (p : Option ℕ) → Fit (wait_command all timed deadline irql p)
+  wait-ok : (all : Bool) (deadline : Option ℕ) (irql : ℕ) → NumberOk most deadline → irql ≤ 255 → (p : Option ℕ) → Fit (wait_command all deadline irql p)
   unfolding wait_command asked
-  wait-ok all timed deadline irql h k None = record { fits = unread.fits }
-  wait-ok all timed deadline irql h k (Some n) = record { fits = λ m v. go m v (ltb (length m) n) }
+  wait-ok all deadline irql h k None = record { fits = unread.fits }
+  wait-ok all deadline irql h k (Some n) = record { fits = λ m v. go m v (ltb (length m) n) }
     where
-      go : (m : List ℕ) → U64s m → (b : Bool) → AskedFits (cond b nothing (calls (call.Wait (take n m) all (optional timed deadline) irql) tt))
+      go : (m : List ℕ) → U64s m → (b : Bool) → AskedFits (cond b nothing (calls (call.Wait (take n m) all (argument deadline) irql) tt))
       go m v true = tt
-      go m v false = (take-fits n m v, deadline-fits timed deadline h, k)
+      go m v false = (take-fits n m v, deadline-fits deadline h, k)
 
-  irql-ok : (all timed : Bool) (deadline : ℕ) → deadline ≤ most → (x : Option ℕ) → NumberOk 255 x → (ws : List (List ℕ)) → TakenOk (with_irql all timed deadline x ws l)
+  irql-ok : (all : Bool) (deadline : Option ℕ) → NumberOk most deadline → (x : Option ℕ) → NumberOk 255 x → (ws : List (List ℕ)) → TakenOk (with_irql all deadline x ws l)
   unfolding with_irql
-  irql-ok all timed deadline h None k ws = no-wait
-  irql-ok all timed deadline h (Some irql) k ws = record { command = wait-ok all timed deadline irql h k (pairs_of ws 0 l).count; list = pairs-fit ws 0 l u }
+  irql-ok all deadline h None k ws = no-wait
+  irql-ok all deadline h (Some irql) k ws = record { command = wait-ok all deadline irql h k (pairs_of ws 0 l).count; list = pairs-fit ws 0 l u }
 
-  from-ok : (all timed : Bool) (deadline : ℕ) → deadline ≤ most → (ws : List (List ℕ)) → TakenOk (wait_from all timed deadline ws l)
+  from-ok : (all : Bool) (deadline : Option ℕ) → NumberOk most deadline → (ws : List (List ℕ)) → TakenOk (wait_from all deadline ws l)
   unfolding wait_from
-  from-ok all timed deadline h ws = irql-ok all timed deadline h (number_of 255 (first ws)) (number_ok 255 (first ws)) (others ws)
+  from-ok all deadline h ws = irql-ok all deadline h (number_of 255 (first ws)) (number_ok 255 (first ws)) (others ws)
 
   deadline-ok : (all : Bool) (x : Option ℕ) → NumberOk most x → (ws : List (List ℕ)) → TakenOk (with_deadline all x ws l)
   unfolding with_deadline
   deadline-ok all None k ws = no-wait
-  deadline-ok all (Some n) k ws = from-ok all true n k ws
+  deadline-ok all (Some n) k ws = from-ok all (Some n) k ws
 
   until-ok : (all : Bool) (ws : List (List ℕ)) → TakenOk (wait_until all ws l)
   unfolding wait_until
   until-ok all ws =
-      taken-either (same (first ws) name.never) _ _ (from-ok all false 0 (omega arith) (others ws)) (deadline-ok all (number_of most (first ws)) (number_ok most (first ws)) (others ws))
+      taken-either (same (first ws) name.never) _ _ (from-ok all None tt (others ws)) (deadline-ok all (number_of most (first ws)) (number_ok most (first ws)) (others ws))
 
   line_ok : (ws : List (List ℕ)) → TakenOk (wait_line ws l)
   unfolding wait_line

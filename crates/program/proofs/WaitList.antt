@@ -21,8 +21,7 @@ use Rattle.script.specs.Line.{text_length, text_line, read_line}
 use Rattle.script_lex.proofs.Cases as Cases
 use Rattle.script_lex.proofs.WordLaws.{words-few}
 use Rattle.model.specs.Call as call
-use Rattle.calls.specs.Called.{optional}
-use Rattle.commands.specs.Commands.{calls, asked}
+use Rattle.commands.specs.Commands.{argument, calls, asked}
 use Rattle.program.proofs.Lines.{Ok, unread, short_ok}
 
 fewer-others : (ws : List (List ℕ)) → length (others ws) ≤ length ws
@@ -91,38 +90,38 @@ module _ (l m : List ℕ) where
   one_of true h k = h
   one_of false h k = k
 
-  wait-means : (all timed : Bool) (deadline irql : ℕ) (p q : Option ℕ) (a b : List ℕ) → Alike p a q b → asked a (wait_command all timed deadline irql p) ≡ asked b (wait_command all timed deadline irql q)
+  wait-means : (all : Bool) (deadline : Option ℕ) (irql : ℕ) (p q : Option ℕ) (a b : List ℕ) → Alike p a q b → asked a (wait_command all deadline irql p) ≡ asked b (wait_command all deadline irql q)
   unfolding wait_command asked
-  wait-means all timed deadline irql None None a b h = refl
-  wait-means all timed deadline irql None (Some k) a b h = absurd h
-  wait-means all timed deadline irql (Some n) None a b h = absurd h
-  wait-means all timed deadline irql (Some n) (Some k) a b h =
-      simp (sym h.0, le-ltb _ _ h.1, le-ltb _ _ h.2) (ap (λ (ns : List ℕ). calls (call.Wait ns all (optional timed deadline) irql) tt) h.3)
+  wait-means all deadline irql None None a b h = refl
+  wait-means all deadline irql None (Some k) a b h = absurd h
+  wait-means all deadline irql (Some n) None a b h = absurd h
+  wait-means all deadline irql (Some n) (Some k) a b h =
+      simp (sym h.0, le-ltb _ _ h.1, le-ltb _ _ h.2) (ap (λ (ns : List ℕ). calls (call.Wait ns all (argument deadline) irql) tt) h.3)
 
   module _ (room : 2048 ≤ length l) (room' : 2048 ≤ length m) where
-    irql-alike : (all timed : Bool) (deadline : ℕ) (x : Option ℕ) (ws : List (List ℕ)) → length ws ≤ 2048 → TakenAlike (with_irql all timed deadline x ws l) (with_irql all timed deadline x ws m)
+    irql-alike : (all : Bool) (deadline : Option ℕ) (x : Option ℕ) (ws : List (List ℕ)) → length ws ≤ 2048 → TakenAlike (with_irql all deadline x ws l) (with_irql all deadline x ws m)
     unfolding with_irql
-    irql-alike all timed deadline None ws h = unread-alike
-    irql-alike all timed deadline (Some irql) ws h =
+    irql-alike all deadline None ws h = unread-alike
+    irql-alike all deadline (Some irql) ws h =
         record {
-          means = wait-means all timed deadline irql _ _ _ _ (pairs-alike ws 0 l m (omega arith) (omega arith) refl);
+          means = wait-means all deadline irql _ _ _ _ (pairs-alike ws 0 l m (omega arith) (omega arith) refl);
           long = length_pairs ws 0 l;
         }
 
-    from-alike : (all timed : Bool) (deadline : ℕ) (ws : List (List ℕ)) → length ws ≤ 2048 → TakenAlike (wait_from all timed deadline ws l) (wait_from all timed deadline ws m)
+    from-alike : (all : Bool) (deadline : Option ℕ) (ws : List (List ℕ)) → length ws ≤ 2048 → TakenAlike (wait_from all deadline ws l) (wait_from all deadline ws m)
     unfolding wait_from
-    from-alike all timed deadline ws h = irql-alike all timed deadline (number_of 255 (first ws)) (others ws) (omega (arith, fewer-others ws))
+    from-alike all deadline ws h = irql-alike all deadline (number_of 255 (first ws)) (others ws) (omega (arith, fewer-others ws))
 
     deadline-alike : (all : Bool) (x : Option ℕ) (ws : List (List ℕ)) → length ws ≤ 2048 → TakenAlike (with_deadline all x ws l) (with_deadline all x ws m)
     unfolding with_deadline
     deadline-alike all None ws h = unread-alike
-    deadline-alike all (Some n) ws h = from-alike all true n ws h
+    deadline-alike all (Some n) ws h = from-alike all (Some n) ws h
 
     until-alike : (all : Bool) (ws : List (List ℕ)) → length ws ≤ 2048 → TakenAlike (wait_until all ws l) (wait_until all ws m)
     unfolding wait_until
     until-alike all ws h =
         let k : length (others ws) ≤ 2048 = omega (arith, fewer-others ws) in
-        one_of (same (first ws) name.never) (from-alike all false 0 (others ws) k) (deadline-alike all (number_of most (first ws)) (others ws) k)
+        one_of (same (first ws) name.never) (from-alike all None (others ws) k) (deadline-alike all (number_of most (first ws)) (others ws) k)
 
     line-alike : (ws : List (List ℕ)) → length ws ≤ 2048 → TakenAlike (wait_line ws l) (wait_line ws m)
     unfolding wait_line

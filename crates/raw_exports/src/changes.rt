@@ -10,61 +10,41 @@ ghost use Rattle.dispatcher.specs.Dispatched.{dispatched};
 ghost use Rattle.exports.specs.SchedulerAnswer.{truth, given, changed_by, given_all};
 ghost use Rattle.raw_exports.specs.Dispatch.{dispatched_by};
 
-use exports::scheduler_answer::put_answer;
+use exports::scheduler_answer::{change, put_answer};
 
 #[unsafe(no_mangle)]
 pub extern "C" fn raw_create_thread(words: &mut [u64], priority: u64, out: &mut [u64]) -> u64
     ensures { given result words.new out.new ≡ changed_by words.old out.old (thread.created words.old priority) }
 {
-    if out.len() < 4 {
-        return 27;
-    }
-    let answer = threading::create_thread(words, priority);
-    put_answer(out, answer.into())
+    change(words, out, |w| threading::create_thread(w, priority))
 }
 
 #[unsafe(no_mangle)]
 pub extern "C" fn raw_priority(words: &mut [u64], id: u64, priority: u64, out: &mut [u64]) -> u64
     ensures { given result words.new out.new ≡ changed_by words.old out.old (thread.prioritized words.old id priority) }
 {
-    if out.len() < 4 {
-        return 27;
-    }
-    let answer = threading::priority(words, id, priority);
-    put_answer(out, answer.into())
+    change(words, out, |w| threading::priority(w, id, priority))
 }
 
 #[unsafe(no_mangle)]
 pub extern "C" fn raw_yield_current(words: &mut [u64], out: &mut [u64]) -> u64
     ensures { given result words.new out.new ≡ changed_by words.old out.old (thread.yielded words.old) }
 {
-    if out.len() < 4 {
-        return 27;
-    }
-    let answer = threading::yield_current(words);
-    put_answer(out, answer.into())
+    change(words, out, |w| threading::yield_current(w))
 }
 
 #[unsafe(no_mangle)]
 pub extern "C" fn raw_terminate(words: &mut [u64], status: u32, out: &mut [u64]) -> u64
     ensures { given result words.new out.new ≡ changed_by words.old out.old (thread.terminated words.old status) }
 {
-    if out.len() < 4 {
-        return 27;
-    }
-    let answer = threading::terminate(words, status);
-    put_answer(out, answer.into())
+    change(words, out, |w| threading::terminate(w, status))
 }
 
 #[unsafe(no_mangle)]
 pub extern "C" fn raw_initialize_mutex(words: &mut [u64], key: u64, out: &mut [u64]) -> u64
     ensures { given result words.new out.new ≡ changed_by words.old out.old (mutexes.initialized words.old key) }
 {
-    if out.len() < 4 {
-        return 27;
-    }
-    let answer = mutexes::initialize_mutex(words, key);
-    put_answer(out, answer.into())
+    change(words, out, |w| mutexes::initialize_mutex(w, key))
 }
 
 #[unsafe(no_mangle)]
@@ -77,22 +57,18 @@ pub extern "C" fn raw_adopt_mutex(
 ) -> u64
     ensures { given result words.new out.new ≡ changed_by words.old out.old (mutexes.adopted words.old key (truth owned) owner) }
 {
-    if out.len() < 4 {
-        return 27;
-    }
-    let answer = mutexes::adopt_mutex(words, key, owned != 0, owner);
-    put_answer(out, answer.into())
+    change(
+        words,
+        out,
+        |w| mutexes::adopt_mutex(w, key, (owned != 0).then_some(owner)),
+    )
 }
 
 #[unsafe(no_mangle)]
 pub extern "C" fn raw_release_mutex(words: &mut [u64], key: u64, out: &mut [u64]) -> u64
     ensures { given result words.new out.new ≡ changed_by words.old out.old (mutexes.released words.old key) }
 {
-    if out.len() < 4 {
-        return 27;
-    }
-    let answer = mutexes::release_mutex(words, key);
-    put_answer(out, answer.into())
+    change(words, out, |w| mutexes::release_mutex(w, key))
 }
 
 #[unsafe(no_mangle)]
@@ -105,33 +81,25 @@ pub extern "C" fn raw_initialize_event(
 ) -> u64
     ensures { given result words.new out.new ≡ changed_by words.old out.old (events.initialized words.old key (truth manual) (truth signaled)) }
 {
-    if out.len() < 4 {
-        return 27;
-    }
-    let answer = events::initialize_event(words, key, manual != 0, signaled != 0);
-    put_answer(out, answer.into())
+    change(
+        words,
+        out,
+        |w| events::initialize_event(w, key, manual != 0, signaled != 0),
+    )
 }
 
 #[unsafe(no_mangle)]
 pub extern "C" fn raw_set_event(words: &mut [u64], key: u64, out: &mut [u64]) -> u64
     ensures { given result words.new out.new ≡ changed_by words.old out.old (events.was_set words.old key) }
 {
-    if out.len() < 4 {
-        return 27;
-    }
-    let answer = events::set_event(words, key);
-    put_answer(out, answer.into())
+    change(words, out, |w| events::set_event(w, key))
 }
 
 #[unsafe(no_mangle)]
 pub extern "C" fn raw_reset_event(words: &mut [u64], key: u64, out: &mut [u64]) -> u64
     ensures { given result words.new out.new ≡ changed_by words.old out.old (events.was_reset words.old key) }
 {
-    if out.len() < 4 {
-        return 27;
-    }
-    let answer = events::reset_event(words, key);
-    put_answer(out, answer.into())
+    change(words, out, |w| events::reset_event(w, key))
 }
 
 #[unsafe(no_mangle)]
@@ -144,11 +112,11 @@ pub extern "C" fn raw_retire_event_backing(
 ) -> u64
     ensures { given result words.new out.new ≡ changed_by words.old out.old (release.events_retired words.old base size layout) }
 {
-    if out.len() < 4 {
-        return 27;
-    }
-    let answer = event_release::retire_event_backing(words, base, size, layout);
-    put_answer(out, answer.into())
+    change(
+        words,
+        out,
+        |w| event_release::retire_event_backing(w, base, size, layout),
+    )
 }
 
 #[unsafe(no_mangle)]
@@ -160,22 +128,14 @@ pub extern "C" fn raw_delay_until(
 ) -> u64
     ensures { given result words.new out.new ≡ changed_by words.old out.old (wait.delayed words.old deadline irql) }
 {
-    if out.len() < 4 {
-        return 27;
-    }
-    let answer = waiting::delay_until(words, deadline, irql);
-    put_answer(out, answer.into())
+    change(words, out, |w| waiting::delay_until(w, deadline, irql))
 }
 
 #[unsafe(no_mangle)]
 pub extern "C" fn raw_advance_to(words: &mut [u64], time: u64, out: &mut [u64]) -> u64
     ensures { given result words.new out.new ≡ changed_by words.old out.old (advanced words.old time) }
 {
-    if out.len() < 4 {
-        return 27;
-    }
-    let answer = advancing::advance_to(words, time);
-    put_answer(out, answer.into())
+    change(words, out, |w| advancing::advance_to(w, time))
 }
 
 #[unsafe(no_mangle)]
@@ -190,11 +150,11 @@ pub extern "C" fn raw_wait(
 ) -> u64
     ensures { given result words.new out.new ≡ changed_by words.old out.old (wait.waited words.old list.now (truth all) (truth timed) deadline irql) }
 {
-    if out.len() < 4 {
-        return 27;
-    }
-    let answer = waiting::wait(words, list, all != 0, timed != 0, deadline, irql);
-    put_answer(out, answer.into())
+    change(
+        words,
+        out,
+        |w| waiting::wait(w, list, all != 0, timed != 0, deadline, irql),
+    )
 }
 
 #[unsafe(no_mangle)]

@@ -5,7 +5,7 @@ ghost use Rattle.exports.specs.SchedulerAnswer.{given, changed_by};
 ghost use Rattle.exports.specs.RecordCall.{started_by};
 
 use exports::record_answer::put_work_answer;
-use exports::scheduler_answer::put_answer;
+use exports::scheduler_answer::change;
 
 #[unsafe(no_mangle)]
 pub extern "C" fn raw_configure_dpc_dispatch(
@@ -16,11 +16,11 @@ pub extern "C" fn raw_configure_dpc_dispatch(
 ) -> u64
     ensures { given result words.new out.new ≡ changed_by words.old out.old (calls.configured words.old first second) }
 {
-    if out.len() < 4 {
-        return 27;
-    }
-    let answer = dpc_work::configure_dpc_dispatch(words, first, second);
-    put_answer(out, answer.into())
+    change(
+        words,
+        out,
+        |w| dpc_work::configure_dpc_dispatch(w, first, second),
+    )
 }
 
 #[unsafe(no_mangle)]
@@ -33,22 +33,18 @@ pub extern "C" fn raw_insert_queue_dpc(
 ) -> u64
     ensures { given result words.new out.new ≡ changed_by words.old out.old (calls.queue_inserted words.old address first second) }
 {
-    if out.len() < 4 {
-        return 27;
-    }
-    let answer = dpc_work::insert_queue_dpc(words, address, first, second);
-    put_answer(out, answer.into())
+    change(
+        words,
+        out,
+        |w| dpc_work::insert_queue_dpc(w, address, first, second),
+    )
 }
 
 #[unsafe(no_mangle)]
 pub extern "C" fn raw_remove_queue_dpc(words: &mut [u64], address: u64, out: &mut [u64]) -> u64
     ensures { given result words.new out.new ≡ changed_by words.old out.old (calls.queue_removed words.old address) }
 {
-    if out.len() < 4 {
-        return 27;
-    }
-    let answer = dpc_work::remove_queue_dpc(words, address);
-    put_answer(out, answer.into())
+    change(words, out, |w| dpc_work::remove_queue_dpc(w, address))
 }
 
 #[unsafe(no_mangle)]
@@ -71,11 +67,7 @@ pub extern "C" fn raw_returned_dpc(
 ) -> u64
     ensures { given result words.new out.new ≡ changed_by words.old out.old (calls.work_returned words.old address sequence) }
 {
-    if out.len() < 4 {
-        return 27;
-    }
-    let answer = dpc_work::returned_dpc(words, address, sequence);
-    put_answer(out, answer.into())
+    change(words, out, |w| dpc_work::returned_dpc(w, address, sequence))
 }
 
 #[unsafe(no_mangle)]
@@ -87,9 +79,5 @@ pub extern "C" fn raw_restored_dpc(
 ) -> u64
     ensures { given result words.new out.new ≡ changed_by words.old out.old (calls.work_restored words.old address sequence) }
 {
-    if out.len() < 4 {
-        return 27;
-    }
-    let answer = dpc_work::restored_dpc(words, address, sequence);
-    put_answer(out, answer.into())
+    change(words, out, |w| dpc_work::restored_dpc(w, address, sequence))
 }

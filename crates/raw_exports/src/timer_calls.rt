@@ -6,7 +6,7 @@ ghost use Rattle.arming.specs.Arm as arm;
 ghost use Rattle.timers.specs.Release as release;
 ghost use Rattle.exports.specs.SchedulerAnswer.{truth, given, changed_by};
 
-use exports::scheduler_answer::put_answer;
+use exports::scheduler_answer::change;
 
 #[unsafe(no_mangle)]
 pub extern "C" fn raw_initialize_timer(
@@ -22,13 +22,13 @@ pub extern "C" fn raw_initialize_timer(
 ) -> u64
     ensures { given result words.new out.new ≡ changed_by words.old out.old (initialize.timer_initialized words.old address (architecture_of architecture) (backing_of backing base size mapped) (truth manual)) }
 {
-    if out.len() < 4 {
-        return 27;
-    }
     let a = images::architecture_of(architecture);
     let b = images::backing_of(backing, base, size, mapped);
-    let answer = timers::initialize::initialize_timer(words, address, a, b, manual != 0);
-    put_answer(out, answer.into())
+    change(
+        words,
+        out,
+        |w| timers::initialize::initialize_timer(w, address, a, b, manual != 0),
+    )
 }
 
 #[unsafe(no_mangle)]
@@ -46,13 +46,13 @@ pub extern "C" fn raw_initialize_dpc(
 ) -> u64
     ensures { given result words.new out.new ≡ changed_by words.old out.old (initialize.dpc_initialized words.old address (architecture_of architecture) (backing_of backing base size mapped) routine context) }
 {
-    if out.len() < 4 {
-        return 27;
-    }
     let a = images::architecture_of(architecture);
     let b = images::backing_of(backing, base, size, mapped);
-    let answer = timers::initialize::initialize_dpc(words, address, a, b, routine, context);
-    put_answer(out, answer.into())
+    change(
+        words,
+        out,
+        |w| timers::initialize::initialize_dpc(w, address, a, b, routine, context),
+    )
 }
 
 #[unsafe(no_mangle)]
@@ -67,22 +67,18 @@ pub extern "C" fn raw_set_timer(
 ) -> u64
     ensures { given result words.new out.new ≡ changed_by words.old out.old (arm.timer_set words.old address due (truth absolute) period dpc) }
 {
-    if out.len() < 4 {
-        return 27;
-    }
-    let answer = arming::set_timer(words, address, due, absolute != 0, period, dpc);
-    put_answer(out, answer.into())
+    change(
+        words,
+        out,
+        |w| arming::set_timer(w, address, due, absolute != 0, period, dpc),
+    )
 }
 
 #[unsafe(no_mangle)]
 pub extern "C" fn raw_cancel_timer(words: &mut [u64], address: u64, out: &mut [u64]) -> u64
     ensures { given result words.new out.new ≡ changed_by words.old out.old (arm.timer_cancelled words.old address) }
 {
-    if out.len() < 4 {
-        return 27;
-    }
-    let answer = arming::cancel_timer(words, address);
-    put_answer(out, answer.into())
+    change(words, out, |w| arming::cancel_timer(w, address))
 }
 
 #[unsafe(no_mangle)]
@@ -94,9 +90,9 @@ pub extern "C" fn raw_retire_timer_backing(
 ) -> u64
     ensures { given result words.new out.new ≡ changed_by words.old out.old (release.timers_retired words.old address size) }
 {
-    if out.len() < 4 {
-        return 27;
-    }
-    let answer = timers::release::retire_timer_backing(words, address, size);
-    put_answer(out, answer.into())
+    change(
+        words,
+        out,
+        |w| timers::release::retire_timer_backing(w, address, size),
+    )
 }

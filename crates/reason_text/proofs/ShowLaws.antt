@@ -3,11 +3,10 @@ use mathlib.Core.Path.{◌≡◌, refl, sym, ap, ◌∙◌}
 use mathlib.Core.List.{List, [], ◌∷◌}
 use Prim.Native.Nat.{ℕ, suc, ◌+◌, ◌-◌, ◌≤◌, ◌<◌}
 use native.Mathlib.Omega.{arith}
-use lib.ListN.{length, get_or, take, drop, length-drop}
-use lib.Seq.{length-take-le}
+use lib.ListN.{length, get_or, take, drop}
 use Rattle.std.specs.Prelude.{min}
 use Rattle.std.proofs.lemmas.List.{drop_all, drop_more, take_min}
-use Rattle.script_lex.specs.Words.{others, part}
+use Rattle.script_lex.specs.Words.{others}
 use Rattle.script_print.specs.Print.{written, printed}
 use Rattle.script_print.proofs.PrintLaws.{join}
 use Rattle.reason_text.specs.Words.{visible, shown, skipped}
@@ -23,12 +22,8 @@ shown-more t at bs i h e =
     ap (λ (xs : List ℕ). printed t at (shown xs)) (drop_more bs i 0 h) ∙ sym (join t at (visible (get_or bs i 0) ∷ []) (shown (drop (i + 1) bs)) e refl)
 
 -- as much of a word as is shown
-pub word-cut : (from to m : ℕ) (s : List ℕ) → from ≤ to → to ≤ length s → m ≡ min 40 (to - from) → take m (part from to s) ≡ take 40 (part from to s)
-unfolding part
-word-cut from to m s h k e =
-    let w = take (to - from) (drop from s) in
-    let l : length w ≡ to - from = length-take-le (to - from) (drop from s) (omega (arith, length-drop from s)) in
-    ap (λ (n : ℕ). take n w) (e ∙ ap (min 40) (sym l)) ∙ take_min 40 w
+pub word-cut : (m : ℕ) (w : List ℕ) → m ≡ min 40 (length w) → take m w ≡ take 40 w
+word-cut m w e = ap (λ (n : ℕ). take n w) e ∙ take_min 40 w
 
 pub skip-none : (place i : ℕ) (ws : List (List ℕ)) → place ≤ i → ws ≡ skipped (place - i) ws
 unfolding skipped

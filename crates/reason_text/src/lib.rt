@@ -2,13 +2,14 @@
 #![tactic(auto)]
 
 ghost use Rattle.std.specs.Prelude.{◌≡◌, take};
-ghost use Rattle.script_lex.specs.Words.{words_at, first};
+ghost use Rattle.script_lex.specs.Words.{first};
+ghost use Rattle.script_lex.specs.Left.{left};
 ghost use Rattle.script_print.specs.Texts.{Prints};
 ghost use Rattle.reason_text.specs.Words.{visible, shown, skipped, quoted};
 ghost use Rattle.reason_text.specs.Texts.{kind_text, named, wanted, missing, words_text, reason_text};
 
 use reasons::Reason;
-use script_lex::lex;
+use script_lex::lex::Words;
 use script_print::Text;
 
 // A byte as it is shown: a question mark for what is not printable ASCII.
@@ -31,36 +32,31 @@ fn put_shown(text: &mut Text, bytes: &[u8])
     }
 }
 
-// The place behind the first `place` words.
-fn skip(line: &[u8], place: usize) -> usize
-    ensures { words_at line.now result ≡ skipped place (words_at line.now 0) }
+// The words behind the first `place`.
+fn skip(words: Words<'_>, place: usize) -> Words<'_>
+    ensures { left result ≡ skipped place (left words.entry) }
 {
-    let mut at: usize = 0;
+    let mut here = words;
     for _ in 0..place {
-        at = lex::behind(line, at);
+        here = here.rest();
     }
-    at
+    here
 }
 
 // The first word, as far as 40 bytes.
-fn put_first(text: &mut Text, line: &[u8], place: usize)
-    ensures { Prints text.old text.new (shown (take 40 (first (words_at line.now place)))) }
+fn put_first(text: &mut Text, words: Words)
+    ensures { Prints text.old text.new (shown (take 40 (first (left words.entry)))) }
 {
-    let from = lex::word_start(line, place);
-    let to = lex::word_end(line, from);
-    if to <= line.len() {
-        let word = &line[from..to];
-        put_shown(text, &word[..40.min(word.len())]);
-    }
+    let word = words.first();
+    put_shown(text, &word[..40.min(word.len())]);
 }
 
 // A word in quotes.
-fn put_quoted(text: &mut Text, line: &[u8], place: usize)
-    ensures { Prints text.old text.new (quoted place (words_at line.now 0)) }
+fn put_quoted(text: &mut Text, words: Words, place: usize)
+    ensures { Prints text.old text.new (quoted place (left words.entry)) }
 {
-    let from = skip(line, place);
     text.push_bytes(b"`");
-    put_first(text, line, from);
+    put_first(text, skip(words, place));
     text.push_bytes(b"`");
 }
 
@@ -86,18 +82,18 @@ fn put_kind(text: &mut Text, kind: u8)
 }
 
 // A text and a word behind it.
-fn put_named(text: &mut Text, name: &[u8], line: &[u8], place: usize)
-    ensures { Prints text.old text.new (named name.now place (words_at line.now 0)) }
+fn put_named(text: &mut Text, name: &[u8], words: Words, place: usize)
+    ensures { Prints text.old text.new (named name.now place (left words.entry)) }
 {
     text.push_bytes(name);
-    put_quoted(text, line, place);
+    put_quoted(text, words, place);
 }
 
 // A word, a text and what is wanted.
-fn put_wanted(text: &mut Text, line: &[u8], place: usize, name: &[u8], kind: u8)
-    ensures { Prints text.old text.new (wanted place (words_at line.now 0) name.now kind) }
+fn put_wanted(text: &mut Text, words: Words, place: usize, name: &[u8], kind: u8)
+    ensures { Prints text.old text.new (wanted place (left words.entry) name.now kind) }
 {
-    put_quoted(text, line, place);
+    put_quoted(text, words, place);
     text.push_bytes(name);
     put_kind(text, kind);
 }
@@ -109,9 +105,9 @@ fn put_missing(text: &mut Text, kind: u8)
     put_kind(text, kind);
 }
 
-// The reason of a line without its carriage return.
-fn put_text(text: &mut Text, line: &[u8], reason: Option<Reason>)
-    ensures { Prints text.old text.new (words_text reason (words_at line.now 0)) }
+// The reason of a line, by its words.
+fn put_text(text: &mut Text, words: Words, reason: Option<Reason>)
+    ensures { Prints text.old text.new (words_text reason (left words.entry)) }
 {
     let Some(reason) = reason else {
         return text.push_bytes(b"the line can be read");
@@ -119,18 +115,18 @@ fn put_text(text: &mut Text, line: &[u8], reason: Option<Reason>)
     match reason {
         Reason::TooLong => text.push_bytes(b"the line has more than 4096 bytes"),
         Reason::NoWord => text.push_bytes(b"the line has no word"),
-        Reason::UnknownWord(place) => put_named(text, b"unknown word ", line, place),
+        Reason::UnknownWord(place) => put_named(text, b"unknown word ", words, place),
         Reason::Missing(_, kind) => put_missing(text, kind),
         Reason::NotNumber(place, kind) => {
-            put_wanted(text, line, place, b" is not a number: expected ", kind)
+            put_wanted(text, words, place, b" is not a number: expected ", kind)
         }
         Reason::OutOfRange(place, kind) => {
-            put_wanted(text, line, place, b" is out of range: expected ", kind)
+            put_wanted(text, words, place, b" is out of range: expected ", kind)
         }
         Reason::NotListed(place, kind) => {
-            put_wanted(text, line, place, b" is not known here: expected ", kind)
+            put_wanted(text, words, place, b" is not known here: expected ", kind)
         }
-        Reason::Extra(place) => put_named(text, b"extra argument ", line, place),
+        Reason::Extra(place) => put_named(text, b"extra argument ", words, place),
         Reason::BeforeOpen => text.push_bytes(b"no open has succeeded yet"),
         Reason::SecondOpen => text.push_bytes(b"an open has succeeded already"),
         Reason::BeforeClock => text.push_bytes(b"no clock new has succeeded yet"),
@@ -142,5 +138,5 @@ pub fn put_reason(text: &mut Text, line: &[u8], reason: Option<Reason>)
     ensures { Prints text.old text.new (reason_text line.now reason) }
 {
     let n = script::text_length(line);
-    put_text(text, &line[..n], reason);
+    put_text(text, Words::of(&line[..n]), reason);
 }

@@ -144,8 +144,8 @@ flags_of key None b ws = refl
 owned : (key : ℕ) (ws : List (List ℕ)) → reads (owned_by key ws) ≡ (or_read name.none (first ws) && none (others ws))
 unfolding owned_by reads
 owned key ws =
-    either (same (first ws) name.none) (λ e. simp e (bare-reads (command.AdoptMutex key false 0) (others ws)))
-    (λ e. simp e (one-reads (λ (owner : ℕ). Some (command.AdoptMutex key true owner)) (λ n. refl) most ws))
+    either (same (first ws) name.none) (λ e. simp e (bare-reads (command.AdoptMutex key None) (others ws)))
+    (λ e. simp e (one-reads (λ (owner : ℕ). Some (command.AdoptMutex key (Some owner))) (λ n. refl) most ws))
 
 module _ (p : ℕ) (ws : List (List ℕ)) where
   pub event-line : Agree (event_line ws) (bytes_of "nff") p ws
@@ -374,16 +374,16 @@ pairs-fit false (w ∷ ws) i p l e h =
     (λ r. simp r (pairs-fit true ws (i + 1) (p + 1) (set l i (told x)) next (omega (arith, length-set l i (told x)))))
     (λ r. simp r))
 
-counted : (all timed : Bool) (deadline irql : ℕ) (n : Option ℕ) → reads (wait_command all timed deadline irql n) ≡ pairs_read n
+counted : (all : Bool) (deadline : Option ℕ) (irql : ℕ) (n : Option ℕ) → reads (wait_command all deadline irql n) ≡ pairs_read n
 unfolding wait_command reads pairs_read
-counted all timed deadline irql None = refl
-counted all timed deadline irql (Some n) = refl
+counted all deadline irql None = refl
+counted all deadline irql (Some n) = refl
 
-with-irql : (all timed : Bool) (deadline : ℕ) (n : Option ℕ) (ws : List (List ℕ)) (l : List ℕ)
-    → reads (with_irql all timed deadline n ws l).command ≡ (is_read n && pairs_read (pairs_of ws 0 l).count)
+with-irql : (all : Bool) (deadline : Option ℕ) (n : Option ℕ) (ws : List (List ℕ)) (l : List ℕ)
+    → reads (with_irql all deadline n ws l).command ≡ (is_read n && pairs_read (pairs_of ws 0 l).count)
 unfolding with_irql reads is_read
-with-irql all timed deadline None ws l = refl
-with-irql all timed deadline (Some irql) ws l = counted all timed deadline irql (pairs_of ws 0 l).count
+with-irql all deadline None ws l = refl
+with-irql all deadline (Some irql) ws l = counted all deadline irql (pairs_of ws 0 l).count
 
 -- from the IRQL on
 abbrev irql_read : List (List ℕ) → List ℕ → Bool
@@ -392,12 +392,12 @@ irql_read ws l = is_read (number_of 255 (first ws)) && pairs_read (pairs_of (oth
 with-deadline : (all : Bool) (n : Option ℕ) (ws : List (List ℕ)) (l : List ℕ) → reads (with_deadline all n ws l).command ≡ (is_read n && irql_read ws l)
 unfolding with_deadline wait_from reads is_read
 with-deadline all None ws l = refl
-with-deadline all (Some deadline) ws l = with-irql all true deadline (number_of 255 (first ws)) (others ws) l
+with-deadline all (Some deadline) ws l = with-irql all (Some deadline) (number_of 255 (first ws)) (others ws) l
 
 until : (all : Bool) (ws : List (List ℕ)) (l : List ℕ) → reads (wait_until all ws l).command ≡ (or_read name.never (first ws) && irql_read (others ws) l)
 unfolding wait_until wait_from
 until all ws l =
-    either (same (first ws) name.never) (λ e. simp e (with-irql all false 0 (number_of 255 (first (others ws))) (others (others ws)) l))
+    either (same (first ws) name.never) (λ e. simp e (with-irql all None (number_of 255 (first (others ws))) (others (others ws)) l))
     (λ e. simp e (with-deadline all (number_of most (first ws)) (others ws) l))
 
 wait-reads : (ws : List (List ℕ)) (l : List ℕ)

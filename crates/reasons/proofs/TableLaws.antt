@@ -5,7 +5,9 @@ use mathlib.Core.List.{List, [], ◌∷◌}
 use Prim.Native.Nat.{ℕ, ◌<◌}
 use native.Mathlib.Omega.{arith}
 use lib.ListN.{length}
+use Rattle.std.specs.List.{list_any}
 use Rattle.script_lex.specs.Words.{first, others, none, same}
+use Rattle.script_lex.proofs.Cases.{either}
 use Rattle.reasons.specs.Reasons.{listed, form_of}
 
 pub fewer : (ws : List (List ℕ)) → none ws ≡ false → length (others ws) < length ws
@@ -19,23 +21,13 @@ fewer-two [] e = absurd (false≢true (sym e))
 fewer-two (w ∷ []) e = omega arith
 fewer-two (w ∷ v ∷ ws) e = omega arith
 
-pub listed-end : (ns : List (List ℕ)) (w : List ℕ) → none ns ≡ true → listed ns w ≡ false
-unfolding none listed
-listed-end [] w e = refl
-listed-end (n ∷ ns) w e = absurd (false≢true e)
+pub listed-any : (ns : List (List ℕ)) (w : List ℕ) → listed ns w ≡ list_any (same w) ns
+unfolding listed
+listed-any [] w = refl
+listed-any (n ∷ ns) w = either (same w n) (λ e. simp e) (λ e. simp e (listed-any ns w))
 
-pub listed_here : (ns : List (List ℕ)) (w : List ℕ) → none ns ≡ false → same w (first ns) ≡ true → listed ns w ≡ true
-unfolding none listed first
-listed_here [] w e s = absurd (false≢true (sym e))
-listed_here (n ∷ ns) w e s = simp s
-
-pub listed_more : (ns : List (List ℕ)) (w : List ℕ) → none ns ≡ false → same w (first ns) ≡ false → listed ns w ≡ listed (others ns) w
-unfolding none listed first others
-listed_more [] w e s = absurd (false≢true (sym e))
-listed_more (n ∷ ns) w e s = simp s
-
-pub form-end : (rows : List (List ℕ)) (w : List ℕ) → none rows ≡ true → first rows ≡ form_of rows w
-unfolding none form_of first
+pub form-end : (rows : List (List ℕ)) (w : List ℕ) → none rows ≡ true → [] ≡ form_of rows w
+unfolding none form_of
 form-end [] w e = refl
 form-end (n ∷ rows) w e = absurd (false≢true e)
 

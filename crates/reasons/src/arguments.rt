@@ -1,10 +1,11 @@
-// The words behind a line's name, held to their kinds.
+// The words behind a line's name, held to their kinds: the words left, the number of the first of them, and the letter of its kind.
 ghost use Rattle.std.specs.Prelude.{◌≡◌, ◌+◌, ◌≤◌, length, get_or};
 ghost use Rattle.script_lex.specs.Words.{words_at, first};
+ghost use Rattle.script_lex.specs.Left.{left};
 ghost use Rattle.reasons.specs.Reasons.{digits, is_numeral, unread_number, number_reason, signed_reason, or_number, list_reason, choice_reason, word_reason, next_of, end_reason, reason_from};
 
 use super::{Reason, table};
-use script_lex::lex;
+use script_lex::lex::Words;
 
 // Whether a word is digits, one or more.
 fn are_digits(word: &[u8]) -> bool
@@ -25,10 +26,10 @@ fn are_digits(word: &[u8]) -> bool
 }
 
 // Whether the first word is a number, however large, with a minus or without.
-fn is_numeral(line: &[u8], at: usize) -> bool
-    ensures { result ≡ is_numeral (first (words_at line.now at)) }
+fn is_numeral(words: Words) -> bool
+    ensures { result ≡ is_numeral (first (left words.entry)) }
 {
-    let word = lex::word(line, at);
+    let word = words.first();
     if word.is_empty() {
         return false;
     }
@@ -40,52 +41,52 @@ fn is_numeral(line: &[u8], at: usize) -> bool
 
 // The first word should tell a number, and does not.
 #[tactic(auto, unfolding(crate::specs::Reasons::unread_number))]
-fn unread_number(line: &[u8], at: usize, place: usize, kind: u8) -> Reason
-    ensures { result ≡ unread_number place kind (first (words_at line.now at)) }
+fn unread_number(words: Words, place: usize, kind: u8) -> Reason
+    ensures { result ≡ unread_number place kind (first (left words.entry)) }
 {
-    if is_numeral(line, at) {
+    if is_numeral(words) {
         return Reason::OutOfRange(place, kind);
     }
     Reason::NotNumber(place, kind)
 }
 
 #[tactic(auto, unfolding(crate::specs::Reasons::number_reason, crate::specs::Reasons::of_number))]
-fn number_reason(line: &[u8], at: usize, place: usize, kind: u8, limit: u64) -> Option<Reason>
-    ensures { result ≡ number_reason limit place kind (first (words_at line.now at)) }
+fn number_reason(words: Words, place: usize, kind: u8, limit: u64) -> Option<Reason>
+    ensures { result ≡ number_reason limit place kind (first (left words.entry)) }
 {
-    match lex::number_at(line, at, limit) {
+    match words.number(limit) {
         Some(_) => None,
-        None => Some(unread_number(line, at, place, kind)),
+        None => Some(unread_number(words, place, kind)),
     }
 }
 
 #[tactic(auto, unfolding(crate::specs::Reasons::signed_reason, crate::specs::Reasons::of_signed))]
-fn signed_reason(line: &[u8], at: usize, place: usize, kind: u8) -> Option<Reason>
-    ensures { result ≡ signed_reason place kind (first (words_at line.now at)) }
+fn signed_reason(words: Words, place: usize, kind: u8) -> Option<Reason>
+    ensures { result ≡ signed_reason place kind (first (left words.entry)) }
 {
-    match lex::signed_at(line, at) {
+    match words.signed() {
         Some(_) => None,
-        None => Some(unread_number(line, at, place, kind)),
+        None => Some(unread_number(words, place, kind)),
     }
 }
 
 // One word, or a number of 64 bits.
 #[tactic(auto, unfolding(crate::specs::Reasons::or_number))]
-fn or_number(line: &[u8], at: usize, place: usize, kind: u8, name: &[u8]) -> Option<Reason>
-    ensures { result ≡ or_number name.now place kind (first (words_at line.now at)) }
+fn or_number(words: Words, place: usize, kind: u8, name: &[u8]) -> Option<Reason>
+    ensures { result ≡ or_number name.now place kind (first (left words.entry)) }
 {
-    if lex::is_word(line, at, name) {
+    if words.is(name) {
         return None;
     }
-    number_reason(line, at, place, kind, u64::MAX)
+    number_reason(words, place, kind, u64::MAX)
 }
 
 // One of the words of a list.
 #[tactic(auto, unfolding(crate::specs::Reasons::list_reason))]
-fn list_reason(line: &[u8], at: usize, place: usize, kind: u8, list: &[u8]) -> Option<Reason>
-    ensures { result ≡ list_reason (words_at list.now 0) place kind (first (words_at line.now at)) }
+fn list_reason(words: Words, place: usize, kind: u8, list: &[u8]) -> Option<Reason>
+    ensures { result ≡ list_reason (words_at list.now 0) place kind (first (left words.entry)) }
 {
-    if table::is_listed(line, at, list) {
+    if table::is_listed(words, list) {
         return None;
     }
     Some(Reason::NotListed(place, kind))
@@ -93,32 +94,32 @@ fn list_reason(line: &[u8], at: usize, place: usize, kind: u8, list: &[u8]) -> O
 
 // The first word, of a kind that has words of its own.
 #[tactic(auto, unfolding(crate::specs::Reasons::choice_reason))]
-fn choice_reason(line: &[u8], at: usize, place: usize, kind: u8) -> Option<Reason>
-    ensures { result ≡ choice_reason kind place (first (words_at line.now at)) }
+fn choice_reason(words: Words, place: usize, kind: u8) -> Option<Reason>
+    ensures { result ≡ choice_reason kind place (first (left words.entry)) }
 {
     match kind {
-        b't' => or_number(line, at, place, kind, b"never"),
-        b'o' => or_number(line, at, place, kind, b"none"),
-        b'f' => list_reason(line, at, place, kind, b"0 1"),
-        b'a' => list_reason(line, at, place, kind, b"x64 x86"),
-        b'm' => list_reason(line, at, place, kind, b"image pool"),
-        b's' => list_reason(line, at, place, kind, b"any all"),
-        b'k' => list_reason(line, at, place, kind, b"mutex event timer thread"),
+        b't' => or_number(words, place, kind, b"never"),
+        b'o' => or_number(words, place, kind, b"none"),
+        b'f' => list_reason(words, place, kind, b"0 1"),
+        b'a' => list_reason(words, place, kind, b"x64 x86"),
+        b'm' => list_reason(words, place, kind, b"image pool"),
+        b's' => list_reason(words, place, kind, b"any all"),
+        b'k' => list_reason(words, place, kind, b"mutex event timer thread"),
         _ => Some(Reason::Extra(place)),
     }
 }
 
 // The first word, of any kind.
 #[tactic(auto, unfolding(crate::specs::Reasons::word_reason))]
-fn word_reason(line: &[u8], at: usize, place: usize, kind: u8) -> Option<Reason>
-    ensures { result ≡ word_reason kind place (first (words_at line.now at)) }
+fn word_reason(words: Words, place: usize, kind: u8) -> Option<Reason>
+    ensures { result ≡ word_reason kind place (first (left words.entry)) }
 {
     match kind {
-        b'n' | b'v' => number_reason(line, at, place, kind, u64::MAX),
-        b'b' => number_reason(line, at, place, kind, 255),
-        b'w' => number_reason(line, at, place, kind, 4_294_967_295),
-        b'i' => signed_reason(line, at, place, kind),
-        _ => choice_reason(line, at, place, kind),
+        b'n' | b'v' => number_reason(words, place, kind, u64::MAX),
+        b'b' => number_reason(words, place, kind, 255),
+        b'w' => number_reason(words, place, kind, 4_294_967_295),
+        b'i' => signed_reason(words, place, kind),
+        _ => choice_reason(words, place, kind),
     }
 }
 
@@ -134,14 +135,14 @@ fn kind_at(form: &[u8], i: usize) -> u8
 
 // The place of the kind behind that of the first word.
 #[tactic(auto, unfolding(crate::specs::Reasons::next_of))]
-fn next(line: &[u8], at: usize, kind: u8, i: usize) -> usize
+fn next(words: Words, kind: u8, i: usize) -> usize
     requires { i ≤ 65536 }
-    ensures value { result ≡ next_of kind (first (words_at line.now at)) i }
+    ensures value { result ≡ next_of kind (first (left words.entry)) i }
     ensures upper_bound { result ≤ i + 2 }
 {
     match kind {
         b'v' => i.saturating_sub(1),
-        b'm' if lex::is_word(line, at, b"image") => i + 2,
+        b'm' if words.is(b"image") => i + 2,
         _ => i + 1,
     }
 }
@@ -157,21 +158,21 @@ fn end_reason(place: usize, kind: u8) -> Option<Reason>
     }
 }
 
-// The words from `from` on, the first of which has the number `number`.
-pub fn reason_from(line: &[u8], from: usize, number: usize, form: &[u8]) -> Option<Reason>
-    requires { (length line.now ≤ 4096) × (number ≤ 2) }
-    ensures { result ≡ reason_from form.now 0 number (words_at line.now from) }
+// The words, the first of which has the number `number`. Not a `for` over them, since each is read by what is left.
+pub fn reason_from(words: Words, number: usize, form: &[u8]) -> Option<Reason>
+    requires { (length words.line.now ≤ 4096) × (number ≤ 2) }
+    ensures { result ≡ reason_from form.now 0 number (left words.entry) }
 {
-    let mut at = from;
+    let mut here = words;
     let mut place = number;
     let mut i: usize = 0;
-    while !lex::is_end(line, at) {
+    while !here.is_end() {
         let kind = kind_at(form, i);
-        if let Some(reason) = word_reason(line, at, place, kind) {
+        if let Some(reason) = word_reason(here, place, kind) {
             return Some(reason);
         }
-        i = next(line, at, kind, i);
-        at = lex::behind(line, at);
+        i = next(here, kind, i);
+        here = here.rest();
         place += 1;
     }
     end_reason(place, kind_at(form, i))

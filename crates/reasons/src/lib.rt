@@ -3,9 +3,10 @@
 
 ghost use Rattle.std.specs.Prelude.{◌≡◌, ◌≤◌, length};
 ghost use Rattle.script_lex.specs.Words.{words_at};
+ghost use Rattle.script_lex.specs.Left.{left};
 ghost use Rattle.reasons.specs.Reasons.{continued, named_reason, clock_reason, words_reason, reason_of};
 
-use script_lex::lex;
+use script_lex::lex::Words;
 
 mod arguments;
 mod table;
@@ -28,47 +29,46 @@ pub enum Reason {
     BeforeClock,
 }
 
-// The words from `at` on, the first of which names its form in the table.
-fn named_reason(line: &[u8], at: usize, place: usize, table: &[u8]) -> Option<Reason>
-    requires { (length line.now ≤ 4096) × (place ≤ 1) }
-    ensures { result ≡ named_reason (words_at table.now 0) place (words_at line.now at) }
+// The words, the first of which names its form in the table. Each clause here says that the line has at most 4,096 bytes: a `Words` may have
+// more, and a type for this would be a second one.
+fn named_reason(words: Words, place: usize, table: &[u8]) -> Option<Reason>
+    requires { (length words.line.now ≤ 4096) × (place ≤ 1) }
+    ensures { result ≡ named_reason (words_at table.now 0) place (left words.entry) }
 {
-    let form = lex::word(table, table::form_at(line, at, table));
+    let form = table::form_of(words, table);
     if form.is_empty() {
         return Some(Reason::UnknownWord(place));
     }
-    arguments::reason_from(line, lex::behind(line, at), place + 1, form)
+    arguments::reason_from(words.rest(), place + 1, form)
 }
 
 // The words behind `clock`.
-fn clock_reason(line: &[u8], at: usize) -> Option<Reason>
-    requires { length line.now ≤ 4096 }
-    ensures { result ≡ clock_reason (words_at line.now at) }
+fn clock_reason(words: Words) -> Option<Reason>
+    requires { length words.line.now ≤ 4096 }
+    ensures { result ≡ clock_reason (left words.entry) }
 {
-    if lex::is_end(line, at) {
+    if words.is_end() {
         return Some(Reason::Missing(1, b'c'));
     }
     named_reason(
-        line,
-        at,
+        words,
         1,
         b"new nniw instruction . flush_cycles . observe . qpc . tick64 . tsc . advance_microseconds n advance_100ns n advance_milliseconds w",
     )
 }
 
-fn words_reason(line: &[u8]) -> Option<Reason>
-    requires { length line.now ≤ 4096 }
-    ensures { result ≡ words_reason (words_at line.now 0) }
+fn words_reason(words: Words) -> Option<Reason>
+    requires { length words.line.now ≤ 4096 }
+    ensures { result ≡ words_reason (left words.entry) }
 {
-    if lex::is_end(line, 0) {
+    if words.is_end() {
         return Some(Reason::NoWord);
     }
-    if lex::is_word(line, 0, b"clock") {
-        return clock_reason(line, lex::behind(line, 0));
+    if words.is(b"clock") {
+        return clock_reason(words.rest());
     }
     named_reason(
-        line,
-        0,
+        words,
         0,
         b"wait stbkv open b event nff create b dispatch . set n yield . initialize_mutex n adopt_mutex no mutex_owner n mutex_waiters n release_mutex n reset_event n require_event_release nnn retire_event_backing nnn current . priority nb terminate w delay_until nb advance_to n initialize_timer namnnnf set_timer nnfin cancel_timer n timer_initializations . timer_read_overlap nn timer_metadata_overlap nn require_timer_release nn retire_timer_backing nn initialize_dpc namnnnnn dpc_initializations . configure_dpc_dispatch nn queued_dpcs n insert_queue_dpc nnn remove_queue_dpc n start_dpc n returned_dpc nn restored_dpc nn",
     )
@@ -82,7 +82,7 @@ pub fn reason_of(line: &[u8]) -> Option<Reason>
         return Some(Reason::TooLong);
     }
     let n = script::text_length(line);
-    words_reason(&line[..n])
+    words_reason(Words::of(&line[..n]))
 }
 
 // The reason of a line to which its session has one too, which shows where the line itself is fine.

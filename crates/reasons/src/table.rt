@@ -1,42 +1,29 @@
 // Words looked up in texts: lists of words, and tables in which names and forms take turns.
 ghost use Rattle.std.specs.Prelude.{◌≡◌};
-ghost use Rattle.script_lex.specs.Words.{words_at, first, same};
+ghost use Rattle.script_lex.specs.Words.{words_at, first};
+ghost use Rattle.script_lex.specs.Left.{left};
 ghost use Rattle.reasons.specs.Reasons.{listed, form_of};
 
-use script_lex::lex;
-
-// Whether the first word of the line is the first of the table.
-fn is_same_word(line: &[u8], at: usize, table: &[u8], i: usize) -> bool
-    ensures { result ≡ same (first (words_at line.now at)) (first (words_at table.now i)) }
-{
-    lex::is_word(line, at, lex::word(table, i))
-}
+use script_lex::lex::Words;
 
 // Whether the first word is one of the list.
-pub fn is_listed(line: &[u8], at: usize, list: &[u8]) -> bool
-    ensures { result ≡ listed (words_at list.now 0) (first (words_at line.now at)) }
+pub fn is_listed(words: Words, list: &[u8]) -> bool
+    ensures { result ≡ listed (words_at list.now 0) (first (left words.entry)) }
 {
-    let mut i: usize = 0;
-    while !lex::is_end(list, i) {
-        if is_same_word(line, at, list, i) {
-            return true;
-        }
-        i = lex::behind(list, i);
-    }
-    false
+    Words::of(list).any(|name| words.is(name))
 }
 
-// The place in the table of the form that the first word names; a place where no word is left, if it names none.
-pub fn form_at(line: &[u8], at: usize, table: &[u8]) -> usize
-    ensures { first (words_at table.now result) ≡ form_of (words_at table.now 0) (first (words_at line.now at)) }
+// The form that the first word names, an empty one if it names none. Not a `for` over the table, since a row has two words.
+pub fn form_of<'a>(words: Words, table: &'a [u8]) -> &'a [u8]
+    ensures { result.now ≡ form_of (words_at table.now 0) (first (left words.entry)) }
 {
-    let mut i: usize = 0;
-    while !lex::is_end(table, i) {
-        let form = lex::behind(table, i);
-        if is_same_word(line, at, table, i) {
-            return form;
+    let mut rows = Words::of(table);
+    while !rows.is_end() {
+        let form = rows.rest();
+        if words.is(rows.first()) {
+            return form.first();
         }
-        i = lex::behind(table, form);
+        rows = form.rest();
     }
-    i
+    &[]
 }

@@ -1,6 +1,6 @@
 // The call that a line names, made with the line's numbers; what it returns. `harness/README.md` has the numbers of each.
 use exports::{dpc_calls, image_calls, scheduler_calls, thread_calls, timer_calls};
-use script_lex::lex;
+use script_lex::lex::Words;
 
 // What is returned where the line names no call, or a list is not there.
 const UNREAD: u64 = 28;
@@ -26,9 +26,8 @@ fn signed(is_less: u64, n: u64) -> i64 {
 
 // The period is the fourth word behind the name.
 fn period(line: &[u8]) -> i32 {
-    let second = lex::behind(line, lex::behind(line, 0));
-    let fourth = lex::behind(line, lex::behind(line, second));
-    lex::signed_at(line, fourth).unwrap_or(0)
+    let second = Words::of(line).rest().rest();
+    second.rest().rest().signed().unwrap_or(0)
 }
 
 fn open(w: &mut [u64], out: &mut [u64], n: &[u64]) -> u64 {
@@ -92,9 +91,7 @@ fn insert_and_remove(w: &mut [u64], out: &mut [u64], n: &[u64]) -> u64 {
 
 // The name that a line begins with.
 fn name_of(line: &[u8]) -> &[u8] {
-    let from = lex::word_start(line, 0);
-    let to = lex::word_end(line, from);
-    line.get(from..to).unwrap_or(&[])
+    Words::of(line).first()
 }
 
 fn dpc_read(w: &[u64], out: &mut [u64], name: &[u8], n: &[u64]) -> u64 {

@@ -1,5 +1,5 @@
 // The text of an answer, and what of it has been shown before.
-use script_lex::lex;
+use script_lex::lex::Words;
 use std::io;
 
 // The words of an answer: a tag, its values, and last the number of the refusal.
@@ -102,7 +102,8 @@ pub fn beside(
         }
         return Ok(());
     }
-    if lex::is_word(line, 0, b"timer_image") || lex::is_word(line, 0, b"dpc_image") {
+    let name = Words::of(line);
+    if name.is(b"timer_image") || name.is(b"dpc_image") {
         return image(rt, bytes, n);
     }
     Ok(())

@@ -47,7 +47,7 @@ fn unchanged(s: Session, a: Answer) -> Step
     }
 }
 
-// ---- a clock
+// ---- a clock. Its answers become ours by functions, no From: neither type is this crate's
 
 #[tactic(auto, unfolding(crate::specs::Session::done_answer))]
 fn done_answer(done: Result<(), ClockError>) -> Answer

@@ -1,5 +1,5 @@
 // The calls that change the words.
-ghost use Rattle.std.specs.Prelude.{◌≡◌, length};
+ghost use Rattle.std.specs.Prelude.{◌≡◌, length, is_some, unwrap_or};
 ghost use Rattle.model.specs.Call as call;
 ghost use Rattle.calls.specs.Called.{called, optional};
 ghost use Rattle.answers.specs.Outcome.{outcome};
@@ -56,14 +56,12 @@ pub fn initialize_mutex(w: &mut [u64], key: u64) -> Result<(), SchedulerError>
     mutexes::initialize_mutex(w, key)
 }
 
-pub fn adopt_mutex(w: &mut [u64], key: u64, owned: bool, owner: u64) -> Result<(), SchedulerError>
-    ensures { outcome (done result) w.new ≡ called w.old (call.AdoptMutex key (optional owned owner)) }
+#[tactic(auto, using(calls::proofs::Absent::adopts_given), unfolding(calls::specs::Called::called, calls::specs::Guard::guarded, form::specs::Form::checked))]
+pub fn adopt_mutex(w: &mut [u64], key: u64, owner: Option<u64>) -> Result<(), SchedulerError>
+    ensures { outcome (done result) w.new ≡ called w.old (call.AdoptMutex key (optional (is_some owner) (unwrap_or owner 0))) }
 {
     form::check(w)?;
-    if owned {
-        return mutexes::adopt_mutex(w, key, true, owner);
-    }
-    mutexes::adopt_mutex(w, key, false, 0)
+    mutexes::adopt_mutex(w, key, owner)
 }
 
 pub fn release_mutex(w: &mut [u64], key: u64) -> Result<(), SchedulerError>
@@ -125,21 +123,25 @@ pub fn advance_to(w: &mut [u64], time: u64) -> Result<(), SchedulerError>
     advancing::advance_to(w, time)
 }
 
+#[tactic(auto, using(calls::proofs::Absent::waits_given), unfolding(calls::specs::Called::called, calls::specs::Guard::guarded, form::specs::Form::checked))]
 pub fn wait(
     w: &mut [u64],
     list: &[u64],
     all: bool,
-    timed: bool,
-    deadline: u64,
+    deadline: Option<u64>,
     irql: u8,
 ) -> Result<WaitOutcome, SchedulerError>
-    ensures { outcome (answer_of waiting.told result) w.new ≡ called w.old (call.Wait list.now all (optional timed deadline) irql) }
+    ensures { outcome (answer_of waiting.told result) w.new ≡ called w.old (call.Wait list.now all (optional (is_some deadline) (unwrap_or deadline 0)) irql) }
 {
     form::check(w)?;
-    if timed {
-        return waiting::wait(w, list, all, true, deadline, irql);
-    }
-    waiting::wait(w, list, all, false, 0, irql)
+    waiting::wait(
+        w,
+        list,
+        all,
+        deadline.is_some(),
+        deadline.unwrap_or(0),
+        irql,
+    )
 }
 
 pub fn dispatch(w: &mut [u64], out: &mut [u64]) -> Result<Dispatch, SchedulerError>

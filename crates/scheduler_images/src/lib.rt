@@ -11,7 +11,6 @@ ghost use Rattle.calls.specs.Images.{imaged, timer_imaged, dpc_imaged};
 
 use answers::error::SchedulerError;
 use dpcs::record;
-use objects::found;
 
 // The bytes that the longest image has.
 const LONGEST: usize = 64;
@@ -28,7 +27,7 @@ fn is_refused(w: &[u64], out: &[u8]) -> bool
 pub fn put_timer(w: &[u64], address: u64, out: &mut [u8]) -> Result<u64, SchedulerError>
     ensures { imaged (answer_of answer.Count result) out.new ≡ timer_imaged w.now address out.old }
 {
-    let at = found::object(w, objects::TIMER, address).ok_or(SchedulerError::Unknown)?;
+    let at = objects::place_of(w, objects::TIMER, address).ok_or(SchedulerError::Unknown)?;
     images::timer_bytes(timers::record::read_timer(w, at), out);
     Ok(timers::record::size_at(w, at))
 }
@@ -37,12 +36,13 @@ pub fn put_timer(w: &[u64], address: u64, out: &mut [u8]) -> Result<u64, Schedul
 pub fn put_dpc(w: &[u64], address: u64, out: &mut [u8]) -> Result<u64, SchedulerError>
     ensures { imaged (answer_of answer.Count result) out.new ≡ dpc_imaged w.now address out.old }
 {
-    let n = dpcs::numbered::numbered(w, address).ok_or(SchedulerError::Unknown)?;
+    let n = record::number_of(w, address).ok_or(SchedulerError::Unknown)?;
     let at = record::place(w, n);
     images::dpc_bytes(record::read_dpc(w, at), out);
     Ok(timers::record::dpc_size_at(w, at))
 }
 
+// Its guard and `dpc_image`'s are one, `is_refused`; one function given what puts the image would have to promise of it what both say here.
 #[tactic(auto, unfolding(calls::specs::Called::called, calls::specs::Guard::guarded_image))]
 pub fn timer_image(w: &[u64], address: u64, out: &mut [u8]) -> Result<u64, SchedulerError>
     ensures { imaged (answer_of answer.Count result) out.new ≡ called w.now (call.Reads (call.TimerImage address (length out.old))) out.old }

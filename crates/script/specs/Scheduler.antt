@@ -1,5 +1,5 @@
 -- The lines of the scheduler's calls.
-use Rattle.std.specs.Prelude.{Bool, cond, true, false, List, ℕ, Option, Some, None}
+use Rattle.std.specs.Prelude.{Bool, cond, List, ℕ, Option, Some, None}
 use Rattle.script_lex.specs.declared.command.Command.{Command}
 use Rattle.script_lex.specs.declared.command.Command.TheVariants as command
 use Rattle.script_lex.specs.Names as name
@@ -26,7 +26,7 @@ event_line ws = with_one (λ key. flagged key (others ws)) (number_of most (firs
 -- behind the key
 unfoldable pub owned_by : ℕ → List (List ℕ) → Option Command
 owned_by key ws =
-    cond (same (first ws) name.none) (bare_line (command.AdoptMutex key false 0) (others ws)) (with_one (λ owner. Some (command.AdoptMutex key true owner)) (one_of most ws))
+    cond (same (first ws) name.none) (bare_line (command.AdoptMutex key None) (others ws)) (with_one (λ owner. Some (command.AdoptMutex key (Some owner))) (one_of most ws))
 
 unfoldable pub adopt_line : List (List ℕ) → Option Command
 adopt_line ws = with_one (λ key. owned_by key (others ws)) (number_of most (first ws))

@@ -49,27 +49,27 @@ pub record Taken : Type 0 where
 abbrev pub taken : Option Command → List ℕ → Taken
 taken c l = record { command = c; list = l }
 
-unfoldable pub wait_command : Bool → Bool → ℕ → ℕ → Option ℕ → Option Command
-wait_command all timed deadline irql None = None
-wait_command all timed deadline irql (Some n) = Some (command.Wait all timed deadline irql n)
+unfoldable pub wait_command : Bool → Option ℕ → ℕ → Option ℕ → Option Command
+wait_command all deadline irql None = None
+wait_command all deadline irql (Some n) = Some (command.Wait all deadline irql n)
 
-unfoldable pub with_irql : Bool → Bool → ℕ → Option ℕ → List (List ℕ) → List ℕ → Taken
-with_irql all timed deadline None ws l = taken None l
-with_irql all timed deadline (Some irql) ws l =
-    taken (wait_command all timed deadline irql (pairs_of ws 0 l).count) (pairs_of ws 0 l).list
+unfoldable pub with_irql : Bool → Option ℕ → Option ℕ → List (List ℕ) → List ℕ → Taken
+with_irql all deadline None ws l = taken None l
+with_irql all deadline (Some irql) ws l =
+    taken (wait_command all deadline irql (pairs_of ws 0 l).count) (pairs_of ws 0 l).list
 
 -- the words from the IRQL on
-unfoldable pub wait_from : Bool → Bool → ℕ → List (List ℕ) → List ℕ → Taken
-wait_from all timed deadline ws l = with_irql all timed deadline (number_of 255 (first ws)) (others ws) l
+unfoldable pub wait_from : Bool → Option ℕ → List (List ℕ) → List ℕ → Taken
+wait_from all deadline ws l = with_irql all deadline (number_of 255 (first ws)) (others ws) l
 
 unfoldable pub with_deadline : Bool → Option ℕ → List (List ℕ) → List ℕ → Taken
 with_deadline all None ws l = taken None l
-with_deadline all (Some deadline) ws l = wait_from all true deadline ws l
+with_deadline all (Some deadline) ws l = wait_from all (Some deadline) ws l
 
 -- the words from the deadline on
 unfoldable pub wait_until : Bool → List (List ℕ) → List ℕ → Taken
 wait_until all ws l =
-    cond (same (first ws) name.never) (wait_from all false 0 (others ws) l) (with_deadline all (number_of most (first ws)) (others ws) l)
+    cond (same (first ws) name.never) (wait_from all None (others ws) l) (with_deadline all (number_of most (first ws)) (others ws) l)
 
 unfoldable pub wait_line : List (List ℕ) → List ℕ → Taken
 wait_line ws l =

@@ -2,12 +2,12 @@
 #![tactic(auto)]
 
 ghost use Rattle.std.specs.Prelude.{◌≡◌, ◌≤◌, length};
-ghost use Rattle.script_lex.specs.Words.{words_at};
+ghost use Rattle.script_lex.specs.Left.{left};
 ghost use Rattle.script.specs.Wait.{taken};
 ghost use Rattle.script.specs.Line.{text_length, text_line, read_line};
 
 use script_lex::command::Command;
-use script_lex::lex;
+use script_lex::lex::Words;
 
 mod scheduler_lines;
 mod wait;
@@ -28,14 +28,13 @@ pub fn text_length(line: &[u8]) -> usize
 }
 
 #[tactic(auto, unfolding(crate::specs::Line::text_line))]
-fn read_text(line: &[u8], list: &mut [u64]) -> Option<Command>
-    ensures { taken result list.new ≡ text_line (words_at line.now 0) list.old }
+fn read_text(words: Words, list: &mut [u64]) -> Option<Command>
+    ensures { taken result list.new ≡ text_line (left words.entry) list.old }
 {
-    let rest = lex::behind(line, 0);
-    if lex::is_word(line, 0, b"wait") {
-        return wait::read_wait(line, rest, list);
+    if words.is(b"wait") {
+        return wait::read_wait(words.rest(), list);
     }
-    scheduler_lines::read_short(line, 0)
+    scheduler_lines::read_short(words)
 }
 
 // The command of a line, which comes without its newline. The kinds and keys of a wait go into the list, as far as they are read;
@@ -48,5 +47,5 @@ pub fn read_line(line: &[u8], list: &mut [u64]) -> Option<Command>
         return None;
     }
     let n = text_length(line);
-    read_text(&line[..n], list)
+    read_text(Words::of(&line[..n]), list)
 }

@@ -2,254 +2,241 @@
 #![tactic(auto, unfolding(script_lex::specs::Arguments::with_one, script_lex::specs::Arguments::with_two, script_lex::specs::Arguments::with_three))]
 
 ghost use Rattle.std.specs.Prelude.{◌≡◌, Some};
-ghost use Rattle.script_lex.specs.Words.{words_at, first};
+ghost use Rattle.script_lex.specs.Left.{left};
 ghost use Rattle.script_lex.specs.Arguments.{most, one_of, two_of, three_of, with_one, with_two, with_three};
 ghost use Rattle.script.specs.Scheduler.{flagged, event_line, owned_by, adopt_line, short_line, mutex_line, events_line, thread_line};
 ghost use Rattle.script_lex.specs.declared.command.Command.TheVariants as command;
 
 use script_lex::command::Command;
-use script_lex::{arguments, lex};
+use script_lex::lex::Words;
 use script_timers::{clock_lines, timer_lines};
 
-fn read_open(line: &[u8], at: usize) -> Option<Command>
-    ensures { result ≡ with_one (λ n. Some (command.Open n)) (one_of 255 (words_at line.now at)) }
+fn read_open(words: Words) -> Option<Command>
+    ensures { result ≡ with_one (λ n. Some (command.Open n)) (one_of 255 (left words.entry)) }
 {
-    arguments::one_number(line, at, 255).map(Command::Open)
+    words.only_number(255).map(Command::Open)
 }
 
 // Behind the key: the two flags.
 #[tactic(auto, unfolding(crate::specs::Scheduler::flagged, crate::specs::Scheduler::with_flags))]
-fn read_flags(line: &[u8], at: usize, key: u64) -> Option<Command>
-    ensures { result ≡ flagged key (words_at line.now at) }
+fn read_flags(words: Words, key: u64) -> Option<Command>
+    ensures { result ≡ flagged key (left words.entry) }
 {
-    let manual = arguments::flag_at(line, at)?;
-    let next = lex::behind(line, at);
-    let signaled = arguments::flag_at(line, next)?;
-    arguments::bare(
-        line,
-        lex::behind(line, next),
-        Command::Event {
-            key,
-            manual,
-            signaled,
-        },
-    )
+    let manual = words.flag()?;
+    let next = words.rest();
+    let signaled = next.flag()?;
+    next.rest().bare(Command::Event {
+        key,
+        manual,
+        signaled,
+    })
 }
 
 #[tactic(auto, unfolding(crate::specs::Scheduler::event_line, script_lex::specs::Arguments::with_one))]
-fn read_event(line: &[u8], at: usize) -> Option<Command>
-    ensures { result ≡ event_line (words_at line.now at) }
+fn read_event(words: Words) -> Option<Command>
+    ensures { result ≡ event_line (left words.entry) }
 {
-    let key = lex::number_at(line, at, u64::MAX)?;
-    read_flags(line, lex::behind(line, at), key)
+    let key = words.number(u64::MAX)?;
+    read_flags(words.rest(), key)
 }
 
-fn read_create(line: &[u8], at: usize) -> Option<Command>
-    ensures { result ≡ with_one (λ n. Some (command.Create n)) (one_of 255 (words_at line.now at)) }
+fn read_create(words: Words) -> Option<Command>
+    ensures { result ≡ with_one (λ n. Some (command.Create n)) (one_of 255 (left words.entry)) }
 {
-    arguments::one_number(line, at, 255).map(Command::Create)
+    words.only_number(255).map(Command::Create)
 }
 
-fn read_set(line: &[u8], at: usize) -> Option<Command>
-    ensures { result ≡ with_one (λ n. Some (command.Set n)) (one_of most (words_at line.now at)) }
+fn read_set(words: Words) -> Option<Command>
+    ensures { result ≡ with_one (λ n. Some (command.Set n)) (one_of most (left words.entry)) }
 {
-    arguments::one_number(line, at, u64::MAX).map(Command::Set)
+    words.only_number(u64::MAX).map(Command::Set)
 }
 
-fn read_mutex_owner(line: &[u8], at: usize) -> Option<Command>
-    ensures { result ≡ with_one (λ n. Some (command.MutexOwner n)) (one_of most (words_at line.now at)) }
+fn read_mutex_owner(words: Words) -> Option<Command>
+    ensures { result ≡ with_one (λ n. Some (command.MutexOwner n)) (one_of most (left words.entry)) }
 {
-    arguments::one_number(line, at, u64::MAX).map(Command::MutexOwner)
+    words.only_number(u64::MAX).map(Command::MutexOwner)
 }
 
-fn read_mutex_waiters(line: &[u8], at: usize) -> Option<Command>
-    ensures { result ≡ with_one (λ n. Some (command.MutexWaiters n)) (one_of most (words_at line.now at)) }
+fn read_mutex_waiters(words: Words) -> Option<Command>
+    ensures { result ≡ with_one (λ n. Some (command.MutexWaiters n)) (one_of most (left words.entry)) }
 {
-    arguments::one_number(line, at, u64::MAX).map(Command::MutexWaiters)
+    words.only_number(u64::MAX).map(Command::MutexWaiters)
 }
 
-fn read_initialize_mutex(line: &[u8], at: usize) -> Option<Command>
-    ensures { result ≡ with_one (λ n. Some (command.InitializeMutex n)) (one_of most (words_at line.now at)) }
+fn read_initialize_mutex(words: Words) -> Option<Command>
+    ensures { result ≡ with_one (λ n. Some (command.InitializeMutex n)) (one_of most (left words.entry)) }
 {
-    arguments::one_number(line, at, u64::MAX).map(Command::InitializeMutex)
+    words.only_number(u64::MAX).map(Command::InitializeMutex)
 }
 
-fn read_release_mutex(line: &[u8], at: usize) -> Option<Command>
-    ensures { result ≡ with_one (λ n. Some (command.ReleaseMutex n)) (one_of most (words_at line.now at)) }
+fn read_release_mutex(words: Words) -> Option<Command>
+    ensures { result ≡ with_one (λ n. Some (command.ReleaseMutex n)) (one_of most (left words.entry)) }
 {
-    arguments::one_number(line, at, u64::MAX).map(Command::ReleaseMutex)
+    words.only_number(u64::MAX).map(Command::ReleaseMutex)
 }
 
-fn read_reset_event(line: &[u8], at: usize) -> Option<Command>
-    ensures { result ≡ with_one (λ n. Some (command.ResetEvent n)) (one_of most (words_at line.now at)) }
+fn read_reset_event(words: Words) -> Option<Command>
+    ensures { result ≡ with_one (λ n. Some (command.ResetEvent n)) (one_of most (left words.entry)) }
 {
-    arguments::one_number(line, at, u64::MAX).map(Command::ResetEvent)
+    words.only_number(u64::MAX).map(Command::ResetEvent)
 }
 
-fn read_advance_to(line: &[u8], at: usize) -> Option<Command>
-    ensures { result ≡ with_one (λ n. Some (command.AdvanceTo n)) (one_of most (words_at line.now at)) }
+fn read_advance_to(words: Words) -> Option<Command>
+    ensures { result ≡ with_one (λ n. Some (command.AdvanceTo n)) (one_of most (left words.entry)) }
 {
-    arguments::one_number(line, at, u64::MAX).map(Command::AdvanceTo)
+    words.only_number(u64::MAX).map(Command::AdvanceTo)
 }
 
-fn read_terminate(line: &[u8], at: usize) -> Option<Command>
-    ensures { result ≡ with_one (λ n. Some (command.Terminate n)) (one_of 4294967295 (words_at line.now at)) }
+fn read_terminate(words: Words) -> Option<Command>
+    ensures { result ≡ with_one (λ n. Some (command.Terminate n)) (one_of 4294967295 (left words.entry)) }
 {
-    let n = arguments::one_number(line, at, 4_294_967_295)?;
+    let n = words.only_number(4_294_967_295)?;
     Some(Command::Terminate(n as u32))
 }
 
-fn read_priority(line: &[u8], at: usize) -> Option<Command>
-    ensures { result ≡ with_two (λ a b. Some (command.Priority a b)) (two_of most 255 (words_at line.now at)) }
+fn read_priority(words: Words) -> Option<Command>
+    ensures { result ≡ with_two (λ a b. Some (command.Priority a b)) (two_of most 255 (left words.entry)) }
 {
-    let (id, priority) = arguments::two_numbers(line, at, u64::MAX, 255)?;
+    let (id, priority) = words.two_numbers(u64::MAX, 255)?;
     Some(Command::Priority { id, priority })
 }
 
-fn read_delay_until(line: &[u8], at: usize) -> Option<Command>
-    ensures { result ≡ with_two (λ a b. Some (command.DelayUntil a b)) (two_of most 255 (words_at line.now at)) }
+fn read_delay_until(words: Words) -> Option<Command>
+    ensures { result ≡ with_two (λ a b. Some (command.DelayUntil a b)) (two_of most 255 (left words.entry)) }
 {
-    let (deadline, irql) = arguments::two_numbers(line, at, u64::MAX, 255)?;
+    let (deadline, irql) = words.two_numbers(u64::MAX, 255)?;
     Some(Command::DelayUntil {
         deadline,
         irql: irql as u8,
     })
 }
 
-fn read_require_event_release(line: &[u8], at: usize) -> Option<Command>
-    ensures { result ≡ with_three (λ a b c. Some (command.RequireEventRelease a b c)) (three_of (words_at line.now at)) }
+fn read_require_event_release(words: Words) -> Option<Command>
+    ensures { result ≡ with_three (λ a b c. Some (command.RequireEventRelease a b c)) (three_of (left words.entry)) }
 {
-    let (base, size, layout) = arguments::three_numbers(line, at)?;
+    let (base, size, layout) = words.three_numbers()?;
     Some(Command::RequireEventRelease { base, size, layout })
 }
 
-fn read_retire_event_backing(line: &[u8], at: usize) -> Option<Command>
-    ensures { result ≡ with_three (λ a b c. Some (command.RetireEventBacking a b c)) (three_of (words_at line.now at)) }
+fn read_retire_event_backing(words: Words) -> Option<Command>
+    ensures { result ≡ with_three (λ a b c. Some (command.RetireEventBacking a b c)) (three_of (left words.entry)) }
 {
-    let (base, size, layout) = arguments::three_numbers(line, at)?;
+    let (base, size, layout) = words.three_numbers()?;
     Some(Command::RetireEventBacking { base, size, layout })
 }
 
 // Behind the key: `none`, or the owner.
 #[tactic(auto, unfolding(crate::specs::Scheduler::owned_by, script_lex::specs::Arguments::with_one))]
-fn read_owner(line: &[u8], at: usize, key: u64) -> Option<Command>
-    ensures { result ≡ owned_by key (words_at line.now at) }
+fn read_owner(words: Words, key: u64) -> Option<Command>
+    ensures { result ≡ owned_by key (left words.entry) }
 {
-    if lex::is_word(line, at, b"none") {
-        return arguments::bare(
-            line,
-            lex::behind(line, at),
-            Command::AdoptMutex {
-                key,
-                owned: false,
-                owner: 0,
-            },
-        );
+    if words.is(b"none") {
+        return words.rest().bare(Command::AdoptMutex { key, owner: None });
     }
-    let owner = arguments::one_number(line, at, u64::MAX)?;
+    let owner = words.only_number(u64::MAX)?;
     Some(Command::AdoptMutex {
         key,
-        owned: true,
-        owner,
+        owner: Some(owner),
     })
 }
 
 #[tactic(auto, unfolding(crate::specs::Scheduler::adopt_line, script_lex::specs::Arguments::with_one))]
-fn read_adopt_mutex(line: &[u8], at: usize) -> Option<Command>
-    ensures { result ≡ adopt_line (words_at line.now at) }
+fn read_adopt_mutex(words: Words) -> Option<Command>
+    ensures { result ≡ adopt_line (left words.entry) }
 {
-    let key = lex::number_at(line, at, u64::MAX)?;
-    read_owner(line, lex::behind(line, at), key)
+    let key = words.number(u64::MAX)?;
+    read_owner(words.rest(), key)
 }
 
 #[tactic(auto, unfolding(crate::specs::Scheduler::thread_line))]
-fn read_threads(line: &[u8], at: usize) -> Option<Command>
-    ensures { result ≡ thread_line (words_at line.now at) }
+fn read_threads(words: Words) -> Option<Command>
+    ensures { result ≡ thread_line (left words.entry) }
 {
-    let rest = lex::behind(line, at);
-    if lex::is_word(line, at, b"current") {
-        return arguments::bare(line, rest, Command::Current);
+    let rest = words.rest();
+    if words.is(b"current") {
+        return rest.bare(Command::Current);
     }
-    if lex::is_word(line, at, b"priority") {
-        return read_priority(line, rest);
+    if words.is(b"priority") {
+        return read_priority(rest);
     }
-    if lex::is_word(line, at, b"terminate") {
-        return read_terminate(line, rest);
+    if words.is(b"terminate") {
+        return read_terminate(rest);
     }
-    if lex::is_word(line, at, b"delay_until") {
-        return read_delay_until(line, rest);
+    if words.is(b"delay_until") {
+        return read_delay_until(rest);
     }
-    if lex::is_word(line, at, b"advance_to") {
-        return read_advance_to(line, rest);
+    if words.is(b"advance_to") {
+        return read_advance_to(rest);
     }
-    if lex::is_word(line, at, b"clock") {
-        return clock_lines::read_clock(line, rest);
+    if words.is(b"clock") {
+        return clock_lines::read_clock(rest);
     }
-    timer_lines::read_timers(line, at)
+    timer_lines::read_timers(words)
 }
 
 #[tactic(auto, unfolding(crate::specs::Scheduler::events_line))]
-fn read_events(line: &[u8], at: usize) -> Option<Command>
-    ensures { result ≡ events_line (words_at line.now at) }
+fn read_events(words: Words) -> Option<Command>
+    ensures { result ≡ events_line (left words.entry) }
 {
-    let rest = lex::behind(line, at);
-    if lex::is_word(line, at, b"reset_event") {
-        return read_reset_event(line, rest);
+    let rest = words.rest();
+    if words.is(b"reset_event") {
+        return read_reset_event(rest);
     }
-    if lex::is_word(line, at, b"require_event_release") {
-        return read_require_event_release(line, rest);
+    if words.is(b"require_event_release") {
+        return read_require_event_release(rest);
     }
-    if lex::is_word(line, at, b"retire_event_backing") {
-        return read_retire_event_backing(line, rest);
+    if words.is(b"retire_event_backing") {
+        return read_retire_event_backing(rest);
     }
-    read_threads(line, at)
+    read_threads(words)
 }
 
 #[tactic(auto, unfolding(crate::specs::Scheduler::mutex_line))]
-fn read_mutexes(line: &[u8], at: usize) -> Option<Command>
-    ensures { result ≡ mutex_line (words_at line.now at) }
+fn read_mutexes(words: Words) -> Option<Command>
+    ensures { result ≡ mutex_line (left words.entry) }
 {
-    let rest = lex::behind(line, at);
-    if lex::is_word(line, at, b"initialize_mutex") {
-        return read_initialize_mutex(line, rest);
+    let rest = words.rest();
+    if words.is(b"initialize_mutex") {
+        return read_initialize_mutex(rest);
     }
-    if lex::is_word(line, at, b"adopt_mutex") {
-        return read_adopt_mutex(line, rest);
+    if words.is(b"adopt_mutex") {
+        return read_adopt_mutex(rest);
     }
-    if lex::is_word(line, at, b"mutex_owner") {
-        return read_mutex_owner(line, rest);
+    if words.is(b"mutex_owner") {
+        return read_mutex_owner(rest);
     }
-    if lex::is_word(line, at, b"mutex_waiters") {
-        return read_mutex_waiters(line, rest);
+    if words.is(b"mutex_waiters") {
+        return read_mutex_waiters(rest);
     }
-    if lex::is_word(line, at, b"release_mutex") {
-        return read_release_mutex(line, rest);
+    if words.is(b"release_mutex") {
+        return read_release_mutex(rest);
     }
-    read_events(line, at)
+    read_events(words)
 }
 
 #[tactic(auto, unfolding(crate::specs::Scheduler::short_line))]
-pub fn read_short(line: &[u8], at: usize) -> Option<Command>
-    ensures { result ≡ short_line (words_at line.now at) }
+pub fn read_short(words: Words) -> Option<Command>
+    ensures { result ≡ short_line (left words.entry) }
 {
-    let rest = lex::behind(line, at);
-    if lex::is_word(line, at, b"open") {
-        return read_open(line, rest);
+    let rest = words.rest();
+    if words.is(b"open") {
+        return read_open(rest);
     }
-    if lex::is_word(line, at, b"event") {
-        return read_event(line, rest);
+    if words.is(b"event") {
+        return read_event(rest);
     }
-    if lex::is_word(line, at, b"create") {
-        return read_create(line, rest);
+    if words.is(b"create") {
+        return read_create(rest);
     }
-    if lex::is_word(line, at, b"dispatch") {
-        return arguments::bare(line, rest, Command::Dispatch);
+    if words.is(b"dispatch") {
+        return rest.bare(Command::Dispatch);
     }
-    if lex::is_word(line, at, b"set") {
-        return read_set(line, rest);
+    if words.is(b"set") {
+        return read_set(rest);
     }
-    if lex::is_word(line, at, b"yield") {
-        return arguments::bare(line, rest, Command::Yield);
+    if words.is(b"yield") {
+        return rest.bare(Command::Yield);
     }
-    read_mutexes(line, at)
+    read_mutexes(words)
 }

@@ -1,6 +1,6 @@
 -- The words of a line by its places, as the code scans it.
 use mathlib.Core.Path.{◌≡◌, refl, sym, ap, ◌∙◌}
-use mathlib.Core.Bool.{true, false}
+use mathlib.Core.Bool.{true, false, false≢true}
 use mathlib.Core.List.{List, [], ◌∷◌}
 use Prim.Native.Nat.{ℕ, suc, ◌+◌, ◌-◌, ◌*◌, ◌≤◌, ◌<◌}
 use native.Mathlib.Numerals.{add-one}
@@ -174,3 +174,15 @@ few (b ∷ s) =
 pub words-few : (s : List ℕ) → 2 * length (words_of s) ≤ length s + 1
 unfolding words_of
 words-few s = (few s).0
+
+-- ---- a list of words by its first and the others
+
+pub none-is : (ws : List (List ℕ)) → none ws ≡ true → ws ≡ []
+unfolding none
+none-is [] e = refl
+none-is (w ∷ ws) e = absurd (false≢true e)
+
+pub first-others : (ws : List (List ℕ)) → none ws ≡ false → ws ≡ first ws ∷ others ws
+unfolding none first others
+first-others [] e = absurd (false≢true (sym e))
+first-others (w ∷ ws) e = refl

@@ -1,5 +1,6 @@
 pub mod Text
 pub mod Words
+pub mod Left
 pub mod Numbers
 pub mod Names
 pub mod Arguments

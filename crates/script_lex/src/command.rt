@@ -14,8 +14,7 @@ pub enum Command {
     // The kinds and keys stand in the lent list, `count` numbers.
     Wait {
         all: bool,
-        timed: bool,
-        deadline: u64,
+        deadline: Option<u64>,
         irql: u8,
         count: usize,
     },
@@ -36,8 +35,7 @@ pub enum Command {
     MutexOwner(u64),
     AdoptMutex {
         key: u64,
-        owned: bool,
-        owner: u64,
+        owner: Option<u64>,
     },
     MutexWaiters(u64),
     Priority {

@@ -1,7 +1,15 @@
-// The words of a line, and the numbers that they tell. A place in a line stands for the words from there on.
+// What is left of a line, its words from a place on, and the numbers that they tell.
 ghost use Rattle.std.specs.Prelude.{◌≡◌, true, ◌+◌, ◌≤◌, pos, neg_ℤ, drop};
 ghost use Rattle.script_lex.specs.Words.{blank, blanks, letters, words_at, first, others, none, same};
+ghost use Rattle.script_lex.specs.Left.{left};
 ghost use Rattle.script_lex.specs.Numbers.{takes, with_digit, number_of, plus, minus, signed_of};
+
+// The words of a line from a place on.
+#[derive(Clone, Copy)]
+pub struct Words<'a> {
+    pub line: &'a [u8],
+    pub at: usize,
+}
 
 #[tactic(auto, unfolding(crate::specs::Words::blank))]
 fn is_blank(b: u8) -> bool
@@ -11,7 +19,7 @@ fn is_blank(b: u8) -> bool
 }
 
 // The first place from `from` on where no blank stands.
-pub fn word_start(line: &[u8], from: usize) -> usize
+fn word_start(line: &[u8], from: usize) -> usize
     ensures { result ≡ from + blanks (drop from line.now) }
 {
     for at in from..line.len() {
@@ -23,7 +31,7 @@ pub fn word_start(line: &[u8], from: usize) -> usize
 }
 
 // The first place from `from` on where a blank stands, or the line's end.
-pub fn word_end(line: &[u8], from: usize) -> usize
+fn word_end(line: &[u8], from: usize) -> usize
     ensures { result ≡ from + letters (drop from line.now) }
 {
     for at in from..line.len() {
@@ -32,39 +40,6 @@ pub fn word_end(line: &[u8], from: usize) -> usize
         }
     }
     from.max(line.len())
-}
-
-// The place behind the first word.
-pub fn behind(line: &[u8], at: usize) -> usize
-    ensures { words_at line.now result ≡ others (words_at line.now at) }
-{
-    word_end(line, word_start(line, at))
-}
-
-// Whether no word is left.
-pub fn is_end(line: &[u8], at: usize) -> bool
-    ensures { result ≡ none (words_at line.now at) }
-{
-    line.len() <= word_start(line, at)
-}
-
-// The first word, an empty one where there is none.
-pub fn word(line: &[u8], at: usize) -> &[u8]
-    ensures { result.now ≡ first (words_at line.now at) }
-{
-    let from = word_start(line, at);
-    let to = word_end(line, from);
-    if line.len() < to {
-        return &[];
-    }
-    &line[from..to]
-}
-
-// Whether the first word is `name`.
-pub fn is_word(line: &[u8], at: usize, name: &[u8]) -> bool
-    ensures { result ≡ same (first (words_at line.now at)) name.now }
-{
-    word(line, at) == name
 }
 
 // Whether `b` is a digit, and `n` with it behind is within the limit.
@@ -96,7 +71,7 @@ fn with_digit(limit: u64, n: u64, b: u8) -> u64
 }
 
 // The number whose digits a word has, if it is within the limit.
-fn number_in(word: &[u8], limit: u64) -> Option<u64>
+pub fn number_in(word: &[u8], limit: u64) -> Option<u64>
     ensures { result ≡ number_of limit word.now }
 {
     if word.is_empty() {
@@ -110,13 +85,6 @@ fn number_in(word: &[u8], limit: u64) -> Option<u64>
         n = with_digit(limit, n, b);
     }
     Some(n)
-}
-
-// The number that the first word tells, if it is within the limit.
-pub fn number_at(line: &[u8], at: usize, limit: u64) -> Option<u64>
-    ensures { result ≡ number_of limit (first (words_at line.now at)) }
-{
-    number_in(word(line, at), limit)
 }
 
 // The number less than 0 by `n`.
@@ -141,11 +109,10 @@ fn plus_in(digits: &[u8]) -> Option<i32>
     Some(n as i32)
 }
 
-// The signed number that the first word tells.
-pub fn signed_at(line: &[u8], at: usize) -> Option<i32>
-    ensures { result ≡ signed_of (first (words_at line.now at)) }
+// The signed number that a word tells.
+pub fn signed_in(word: &[u8]) -> Option<i32>
+    ensures { result ≡ signed_of word.now }
 {
-    let word = word(line, at);
     if word.is_empty() {
         return None;
     }
@@ -153,4 +120,84 @@ pub fn signed_at(line: &[u8], at: usize) -> Option<i32>
         return minus_in(&word[1..]);
     }
     plus_in(word)
+}
+
+impl<'a> Words<'a> {
+    // All the words of a line.
+    pub fn of(line: &'a [u8]) -> Self
+        ensures words { left result ≡ words_at line.now 0 }
+        ensures line { result.line ≡ line.entry }
+    {
+        Words { line, at: 0 }
+    }
+
+    // The words behind the first.
+    pub fn rest(self) -> Self
+        ensures words { left result ≡ others (left self.entry) }
+        ensures line { result.line ≡ self.entry.line }
+    {
+        Words {
+            line: self.line,
+            at: word_end(self.line, word_start(self.line, self.at)),
+        }
+    }
+
+    // Whether no word is left.
+    pub fn is_end(self) -> bool
+        ensures { result ≡ none (left self.entry) }
+    {
+        self.line.len() <= word_start(self.line, self.at)
+    }
+
+    // The first word, an empty one where there is none.
+    pub fn first(self) -> &'a [u8]
+        ensures { result.now ≡ first (left self.entry) }
+    {
+        let from = word_start(self.line, self.at);
+        let to = word_end(self.line, from);
+        if self.line.len() < to {
+            return &[];
+        }
+        &self.line[from..to]
+    }
+
+    // Whether the first word is `name`.
+    pub fn is(self, name: &[u8]) -> bool
+        ensures { result ≡ same (first (left self.entry)) name.now }
+    {
+        self.first() == name
+    }
+
+    // The number that the first word tells, if it is within the limit.
+    pub fn number(self, limit: u64) -> Option<u64>
+        ensures { result ≡ number_of limit (first (left self.entry)) }
+    {
+        number_in(self.first(), limit)
+    }
+
+    // The signed number that the first word tells.
+    pub fn signed(self) -> Option<i32>
+        ensures { result ≡ signed_of (first (left self.entry)) }
+    {
+        signed_in(self.first())
+    }
+}
+
+impl<'a> Iterator for Words<'a> {
+    ghost use Rattle.std.specs.Iterator.{YieldsFirstRef, item_count};
+
+    type Item = &'a [u8];
+
+    ghost next_gives = { YieldsFirstRef left };
+
+    ghost remaining = { item_count left };
+
+    fn next(&mut self) -> Option<&'a [u8]> {
+        if self.is_end() {
+            return None;
+        }
+        let word = self.first();
+        *self = self.rest();
+        Some(word)
+    }
 }

@@ -145,7 +145,7 @@ pub fn bare(a: Answer) -> Answer
 }
 
 // The line of an answer, with the number of the line that it answers, at place `at` of `text`: the place behind it, or the text's end where
-// it is cut there.
+// it is cut there. The slice and the place come apart, as a line of `runner` has them.
 pub fn write_answer(text: &mut [u8], at: usize, number: u64, a: Answer, numbers: &[u64]) -> usize
     requires { at ≤ length text.old }
     ensures result_after { written text.new result ≡ printed text.old at (answer_line number a numbers.now) }

@@ -1,4 +1,5 @@
 // Tables of records of 32 words whose first words, the keys, rise: search by halves, room made for a record, and marked records taken out.
+// A table is where it starts and how many records it has, two words of the header that change apart.
 #![tactic(auto)]
 
 ghost use Rattle.std.specs.Prelude.{◌≡◌, ◌+◌, ◌≤◌, ◌<◌};

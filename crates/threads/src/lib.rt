@@ -6,6 +6,8 @@ ghost use Rattle.threads.specs.Thread.{thread_of, put_thread, known, thread_coun
 
 use words::layout;
 
+// States and wait results are numbers, since lent words hold them, and the definitions speak of any word.
+
 // States.
 pub const RUNNING: u64 = 1;
 
@@ -98,7 +100,7 @@ pub fn places_at(id: u64) -> usize
     layout::thread_at(id) + layout::WAIT_PLACES
 }
 
-// The first `n` words of `list` in an array of 64 places.
+// The first `n` words of `list` in an array of 64 places. No slice of it is copied, since it may have fewer.
 fn fill(list: &[u64], n: usize) -> [u64; 128]
     requires { n ≤ 128 }
     ensures { result ≡ filled n list.now }

@@ -1,11 +1,9 @@
 -- No record of a table stands at place 0.
-use Prim.Native.Nat.{ℕ, ◌+◌, ◌*◌, ◌<◌}
+use Prim.Native.Nat.{ℕ}
 use native.Mathlib.Omega.{arith}
-use mathlib.Core.Bool.{Bool, cond, true, false}
 use mathlib.Core.List.{List}
 use mathlib.Core.Path.{◌≡◌, ◌∙◌, sym, ap}
 use borrow.Author.Tests.{ne_eqb}
-use lib.Dec.{leb}
 use lib.ListN.{get_or}
 use Rattle.std.specs.Option.{option_map, unwrap_or}
 use Rattle.std.specs.Prelude.{Option, None, Some}
@@ -13,23 +11,7 @@ use Rattle.words.specs.Layout as at
 use Rattle.words.specs.Layout.{objects_at, entry_at}
 use Rattle.objects.specs.Found.{nonzero}
 use Rattle.objects.specs.Objects.{objects_base, dpcs_base}
-
-objects-some : (t : ℕ) → 0 < objects_at t
-unfolding objects_at
-objects-some t = go (leb t at.most_threads)
-  where
-    go : (b : Bool) → 0 < cond b (at.header_size + at.thread_size * t) at.header_size
-    go true = omega arith
-    go false = omega arith
-
-entry-some : (base i : ℕ) → 0 < base → 0 < entry_at base i
-unfolding entry_at
-entry-some base i h = go (leb base 1000000) (leb i 8192)
-  where
-    go : (a b : Bool) → 0 < cond a (cond b (base + 32 * i) at.unused) at.unused
-    go true true = omega (arith, h)
-    go true false = omega arith
-    go false b = omega arith
+use Rattle.objects.proofs.FoundLaws.{objects-some, entry-some}
 
 pub object-place : (w : List ℕ) (i : ℕ) → nonzero (entry_at (objects_base w) i) ≡ Some (entry_at (objects_base w) i)
 unfolding objects_base

@@ -6,7 +6,7 @@ use mathlib.Core.List.{List, [], ◌∷◌}
 use mathlib.Core.Path.{◌≡◌, ◌∙◌, refl, sym, subst, ap}
 use borrow.Author.Tests.{ne_eqb}
 use lib.Dec.{eqb}
-use lib.ListN.{length}
+use lib.ListN.{length, set}
 use Rattle.std.specs.declared.ops.Range.{Range}
 use Rattle.std.specs.List.{slice_get, filter, find, range_with_len}
 use Rattle.std.specs.Option.{MatchOption, option_map, unwrap_or}
@@ -15,6 +15,7 @@ use Rattle.std.proofs.lemmas.Iterator.{YieldsList}
 use Rattle.std.proofs.lemmas.Iterator.Consumers.{YieldsList-from_shown}
 use Rattle.words.specs.Layout.{entry_at}
 use Rattle.timers.specs.Record.{is_timer}
+use Rattle.timers.specs.Release.{marked}
 use Rattle.timers.specs.Reads.{is_nth, passed_to, nth_in, last_below}
 
 -- the timer at a position, said of the list of the places
@@ -67,3 +68,13 @@ find-down w base (suc n) = let e : 0 + n ≡ n = omega arith in rw e (go (is_tim
         → unwrap_or (option_map (entry_at base) (cond b (Some n) (find (λ k. is_timer w (entry_at base k)) (down n 0)))) 0 ≡ cond b (entry_at base n) (last_below n w base)
     go true h = refl
     go false h = h
+
+-- ---- a record that goes is marked
+
+pub marked-goes : (test : List ℕ → ℕ → Bool) (word : ℕ) (w : List ℕ) (place : ℕ) → test w place ≡ true → marked test word w place ≡ set w (place + word) 9
+unfolding marked
+marked-goes test word w place e = simp e
+
+pub marked-stays : (test : List ℕ → ℕ → Bool) (word : ℕ) (w : List ℕ) (place : ℕ) → test w place ≡ false → marked test word w place ≡ w
+unfolding marked
+marked-stays test word w place e = simp e

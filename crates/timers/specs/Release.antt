@@ -60,6 +60,10 @@ timer_release w address size = cond (eqb (release_refusal w address size) 0) ans
 
 -- ---- retire_timer_backing: 23
 
+-- the words after the record at a place is marked by 9, if it passes the test
+unfoldable pub marked : (List ℕ → ℕ → Bool) → ℕ → List ℕ → ℕ → List ℕ
+marked test word w place = cond (test w place) (set w (place + word) 9) w
+
 -- a timer in the range marked by kind 9, a DPC by phase 9
 unfoldable pub timer_marked : List ℕ → ℕ → ℕ → ℕ → List ℕ
 timer_marked w place address size = cond (timer_stands w place address size) (set w (place + at.kind) 9) w

@@ -10,7 +10,6 @@ use answers::error::SchedulerError;
 use arch::Architecture;
 use dpc_table::NewDpc;
 use images::TimerBacking;
-use objects::found;
 use words::layout;
 
 // The bytes that an event and a mutex are taken to have.
@@ -29,9 +28,7 @@ fn object_overlaps(w: &[u64], at: usize, address: u64, size: u64) -> bool
 {
     let key = words::get_in(w, at, layout::KEY);
     match words::get_in(w, at, layout::KIND) {
-        objects::TIMER => {
-            key != address && images::overlap(address, size, key, record::size_at(w, at))
-        }
+        objects::TIMER => key != address && record::timer_overlaps(w, at, address, size),
         objects::EVENT => images::overlap(address, size, key, EVENT_SIZE),
         _ => images::overlap(address, size, key, MUTEX_SIZE),
     }
@@ -45,12 +42,11 @@ fn any_object(w: &[u64], address: u64, size: u64) -> bool
     (0..objects::count(w)).any(|i| object_overlaps(w, layout::entry_at(base, i), address, size))
 }
 
-#[tactic(auto, unfolding(crate::specs::Initialize::dpc_overlaps))]
+#[tactic(auto, unfolding(crate::specs::Initialize::dpc_overlaps, crate::specs::Release::dpc_stands))]
 fn dpc_overlaps(w: &[u64], at: usize, address: u64, size: u64) -> bool
     ensures { result ≡ dpc_overlaps w.now at address size }
 {
-    let key = words::get_in(w, at, layout::ADDRESS);
-    key != address && images::overlap(address, size, key, record::dpc_size_at(w, at))
+    words::get_in(w, at, layout::ADDRESS) != address && record::dpc_overlaps(w, at, address, size)
 }
 
 #[tactic(auto, unfolding(crate::specs::Initialize::any_dpc))]
@@ -71,7 +67,7 @@ fn check_place(
 ) -> Result<(), SchedulerError>
     ensures { refusal result ≡ place_refusal w.now address size architecture backing }
 {
-    if images::location_refusal(address, size, architecture, backing) != 0 {
+    if !images::is_located(address, size, architecture, backing) {
         return Err(SchedulerError::InvalidLocation);
     }
     if any_object(w, address, size) || any_dpc(w, address, size) {
@@ -88,7 +84,9 @@ fn is_in_use(w: &[u64], address: u64) -> bool
     ensures { result ≡ in_use w.now address }
 {
     wakes::waits_on(w, objects::TIMER, address)
-        || found::object(w, objects::TIMER, address).is_some_and(|at| record::is_inserted(w, at))
+        || objects::place_of(w, objects::TIMER, address).is_some_and(|at| record::is_inserted(
+            w, at,
+        ))
 }
 
 // The number of the initialization.
@@ -161,7 +159,8 @@ fn put_location(w: &mut [u64], at: usize, architecture: Architecture, backing: T
     words::put_in(w, at, layout::TIMER_MAPPED, images::backing_mapped(backing));
 }
 
-// The words of a timer's record behind those of every object, for the initialization with the number `n`.
+// The words of a timer's record behind those of every object, for the initialization with the number `n`; behind place 0 where there is
+// no such timer.
 #[tactic(auto, unfolding(crate::specs::Initialize::record_put))]
 fn put_record(
     w: &mut [u64],
@@ -172,7 +171,7 @@ fn put_record(
 )
     ensures { w.new ≡ record_put w.old address architecture backing n }
 {
-    let at = objects::place_of(w, objects::TIMER, address);
+    let at = objects::place_of(w, objects::TIMER, address).unwrap_or(0);
     put_never_set(w, at);
     put_location(w, at, architecture, backing);
     words::put_in(w, at, layout::INITIALIZATION, n);
@@ -202,7 +201,7 @@ pub fn initialize_timer(
 fn is_dpc_full(w: &[u64], address: u64) -> bool
     ensures { result ≡ dpc_full w.now address }
 {
-    found::dpc(w, address).is_none()
+    objects::find_dpc(w, address).is_none()
         && words::get(w, layout::DPC_LIMIT) <= words::get(w, layout::DPCS)
 }
 
@@ -217,7 +216,7 @@ fn check_dpc(
     ensures refused { refusal result ≡ dpc_refusal w.now address architecture backing }
     ensures number { IfOk result (λ n. n ≡ get_or w.now at.dpc_initializations 0 + 1) }
 {
-    if objects::find_object(w, address) != 0 {
+    if objects::find_object(w, address).is_some() {
         return Err(SchedulerError::OtherKind);
     }
     if is_dpc_full(w, address) {

@@ -7,14 +7,13 @@ ghost use Rattle.timers.specs.Reads.{told, known, timer_read, nth_timer, timers_
 use super::record;
 use answers::error::SchedulerError;
 use images::Timer;
-use objects::found;
 use words::layout;
 
 #[tactic(auto, unfolding(crate::specs::Reads::timer_read))]
 pub fn timer(w: &[u64], address: u64) -> Result<Timer, SchedulerError>
     ensures { known result ≡ timer_read w.now address }
 {
-    let at = found::object(w, objects::TIMER, address).ok_or(SchedulerError::Unknown)?;
+    let at = objects::place_of(w, objects::TIMER, address).ok_or(SchedulerError::Unknown)?;
     Ok(record::read_timer(w, at))
 }
 
@@ -106,28 +105,27 @@ fn last_dpc(w: &[u64], end: u64) -> Option<usize>
     Some(layout::entry_at(base, i))
 }
 
-// Whether the last timer that starts before the range's end has a byte of it.
+// Whether the last timer that starts before the range's end has a byte of it. Not one function with `overlaps_dpc`: the records are of two
+// tables, and the last is found otherwise.
 #[tactic(auto, unfolding(crate::specs::Reads::overlaps_timer))]
 fn overlaps_timer(w: &[u64], address: u64, size: u64) -> bool
     ensures { result ≡ overlaps_timer w.now address size }
 {
     size != 0
-        && last_timer(w, end_of(address, size)).is_some_and(|at| {
-            let key = words::get_in(w, at, layout::KEY);
-            images::overlap(address, size, key, record::size_at(w, at))
-        })
+        && last_timer(w, end_of(address, size)).is_some_and(|at| record::timer_overlaps(
+            w, at, address, size,
+        ))
 }
 
 // Whether the last DPC that starts before the range's end has a byte of it.
-#[tactic(auto, unfolding(crate::specs::Reads::overlaps_dpc))]
+#[tactic(auto, unfolding(crate::specs::Reads::overlaps_dpc, crate::specs::Release::dpc_stands))]
 fn overlaps_dpc(w: &[u64], address: u64, size: u64) -> bool
     ensures { result ≡ overlaps_dpc w.now address size }
 {
     size != 0
-        && last_dpc(w, end_of(address, size)).is_some_and(|at| {
-            let key = words::get_in(w, at, layout::ADDRESS);
-            images::overlap(address, size, key, record::dpc_size_at(w, at))
-        })
+        && last_dpc(w, end_of(address, size)).is_some_and(|at| record::dpc_overlaps(
+            w, at, address, size,
+        ))
 }
 
 #[tactic(auto, unfolding(crate::specs::Reads::read_overlap))]

@@ -2,15 +2,14 @@
 ghost use Rattle.std.specs.Prelude.{◌≡◌};
 ghost use Rattle.answers.specs.Errors.{done};
 ghost use Rattle.answers.specs.Outcome.{outcome};
-ghost use Rattle.timers.specs.Release.{periodic_origin, active_origin, timer_held, timer_stands, is_timer_held, any_timer_held, dpc_held, dpc_stands, is_dpc_held, any_dpc_held, timer_release, timer_marked, timers_marked, timers_closed, dpc_marked, dpcs_marked, timers_retired};
+ghost use Rattle.tables.specs.Compact.{Tells};
+ghost use Rattle.timers.specs.Record.{each_in};
+ghost use Rattle.timers.specs.Release.{periodic_origin, active_origin, timer_held, timer_stands, is_timer_held, any_timer_held, dpc_held, is_dpc_held, any_dpc_held, timer_release, marked, timers_marked, timers_closed, dpcs_marked, timers_retired};
 
 use super::record;
 use answers::error::SchedulerError;
-use objects::found;
+use dpc_table::GONE;
 use words::layout;
-
-// The kind that marks an object that goes.
-const GONE: u64 = 9;
 
 // ---- require_timer_release
 
@@ -30,7 +29,7 @@ fn is_active_origin(w: &[u64], key: u64) -> bool
     ensures { result ≡ active_origin w.now key }
 {
     let active = words::get(w, layout::ACTIVE);
-    active != 0 && found::dpc(w, active).is_some_and(|at| is_periodic_origin(w, at, key))
+    active != 0 && objects::find_dpc(w, active).is_some_and(|at| is_periodic_origin(w, at, key))
 }
 
 // Whether the object at place `at` is a timer with a byte of the range.
@@ -38,13 +37,7 @@ fn is_active_origin(w: &[u64], key: u64) -> bool
 fn timer_stands(w: &[u64], at: usize, address: u64, size: u64) -> bool
     ensures { result ≡ timer_stands w.now at address size }
 {
-    record::is_timer(w, at)
-        && images::overlap(
-            address,
-            size,
-            words::get_in(w, at, layout::KEY),
-            record::size_at(w, at),
-        )
+    record::is_timer(w, at) && record::timer_overlaps(w, at, address, size)
 }
 
 // Whether the timer at place `at` cannot go.
@@ -73,19 +66,6 @@ fn any_timer_held(w: &[u64], address: u64, size: u64) -> bool
     (0..objects::count(w)).any(|i| timer_held(w, layout::entry_at(base, i), address, size))
 }
 
-// Whether the DPC at place `at` has a byte of the range.
-#[tactic(auto, unfolding(crate::specs::Release::dpc_stands))]
-fn dpc_stands(w: &[u64], at: usize, address: u64, size: u64) -> bool
-    ensures { result ≡ dpc_stands w.now at address size }
-{
-    images::overlap(
-        address,
-        size,
-        words::get_in(w, at, layout::ADDRESS),
-        record::dpc_size_at(w, at),
-    )
-}
-
 // Whether the DPC at place `at` is busy, or had by an inserted timer.
 #[tactic(auto, unfolding(crate::specs::Release::is_dpc_held))]
 fn is_dpc_held(w: &[u64], at: usize) -> bool
@@ -98,7 +78,7 @@ fn is_dpc_held(w: &[u64], at: usize) -> bool
 fn dpc_held(w: &[u64], at: usize, address: u64, size: u64) -> bool
     ensures { result ≡ dpc_held w.now at address size }
 {
-    dpc_stands(w, at, address, size) && is_dpc_held(w, at)
+    record::dpc_overlaps(w, at, address, size) && is_dpc_held(w, at)
 }
 
 #[tactic(auto, unfolding(crate::specs::Release::any_dpc_held))]
@@ -122,12 +102,16 @@ pub fn require_timer_release(w: &[u64], address: u64, size: u64) -> Result<(), S
 
 // ---- retire_timer_backing
 
-#[tactic(auto, unfolding(crate::specs::Release::timer_marked))]
-fn mark_timer(w: &mut [u64], at: usize, address: u64, size: u64)
-    ensures { w.new ≡ timer_marked w.old at address size }
+// Word `word` of each of the `n` records for which `goes` answers yes at their places is the mark of those that go.
+fn mark<F: Fn(&[u64], usize) -> bool>(w: &mut [u64], base: usize, n: u64, word: usize, goes: F)
+    requires { F.IsAlwaysCallable goes }
+    ensures { (test : _) → Tells (F.post goes) test → w.new ≡ each_in n (marked test word) w.old base 0 }
 {
-    if timer_stands(w, at, address, size) {
-        words::put_in(w, at, layout::KIND, GONE);
+    for i in 0..n {
+        let at = layout::entry_at(base, i);
+        if goes(w, at) {
+            words::put_in(w, at, word, GONE);
+        }
     }
 }
 
@@ -135,9 +119,10 @@ fn mark_timers(w: &mut [u64], address: u64, size: u64)
     ensures { w.new ≡ timers_marked w.old address size }
 {
     let base = objects::objects_base(w);
-    for i in 0..objects::count(w) {
-        mark_timer(w, layout::entry_at(base, i), address, size);
-    }
+    let n = objects::count(w);
+    mark(w, base, n, layout::KIND, |w, at| {
+        timer_stands(w, at, address, size)
+    });
 }
 
 // The marked objects taken out of the table; the others keep their order.
@@ -151,22 +136,14 @@ fn close_up(w: &mut [u64])
     words::put(w, layout::OBJECTS, left);
 }
 
-#[tactic(auto, unfolding(crate::specs::Release::dpc_marked))]
-fn mark_dpc(w: &mut [u64], at: usize, address: u64, size: u64)
-    ensures { w.new ≡ dpc_marked w.old at address size }
-{
-    if dpc_stands(w, at, address, size) {
-        words::put_in(w, at, layout::PHASE, dpc_table::GONE);
-    }
-}
-
 fn mark_dpcs(w: &mut [u64], address: u64, size: u64)
     ensures { w.new ≡ dpcs_marked w.old address size }
 {
     let base = objects::dpcs_base(w);
-    for i in 0..dpcs::record::count(w) {
-        mark_dpc(w, layout::entry_at(base, i), address, size);
-    }
+    let n = dpcs::record::count(w);
+    mark(w, base, n, layout::PHASE, |w, at| {
+        record::dpc_overlaps(w, at, address, size)
+    });
 }
 
 // The memory given back, and its timers and DPCs no more.

@@ -2,7 +2,7 @@
 // an image.
 #![tactic(auto, unfolding(crate::specs::Unchecked::unchecked))]
 
-ghost use Rattle.std.specs.Prelude.{◌≡◌, length};
+ghost use Rattle.std.specs.Prelude.{◌≡◌, length, is_some, unwrap_or};
 ghost use Rattle.answers.specs.declared.Answer.TheVariants as answer;
 ghost use Rattle.answers.specs.Errors.{done, answer_of};
 ghost use Rattle.answers.specs.Outcome.{outcome};
@@ -18,31 +18,34 @@ use waiting::WaitOutcome;
 // The bytes that the longest image has.
 const LONGEST: usize = 64;
 
-pub fn adopt_mutex(w: &mut [u64], key: u64, owned: bool, owner: u64) -> Result<(), SchedulerError>
-    ensures { outcome (done result) w.new ≡ unchecked w.old (call.AdoptMutex key (optional owned owner)) }
+#[tactic(auto, using(calls::proofs::Absent::adopts_given), unfolding(crate::specs::Unchecked::unchecked))]
+pub fn adopt_mutex(w: &mut [u64], key: u64, owner: Option<u64>) -> Result<(), SchedulerError>
+    ensures { outcome (done result) w.new ≡ unchecked w.old (call.AdoptMutex key (optional (is_some owner) (unwrap_or owner 0))) }
 {
-    if owned {
-        return mutexes::adopt_mutex(w, key, true, owner);
-    }
-    mutexes::adopt_mutex(w, key, false, 0)
+    mutexes::adopt_mutex(w, key, owner)
 }
 
+#[tactic(auto, using(calls::proofs::Absent::waits_given), unfolding(crate::specs::Unchecked::unchecked))]
 pub fn wait(
     w: &mut [u64],
     list: &[u64],
     all: bool,
-    timed: bool,
-    deadline: u64,
+    deadline: Option<u64>,
     irql: u8,
 ) -> Result<WaitOutcome, SchedulerError>
-    ensures { outcome (answer_of waiting.told result) w.new ≡ unchecked w.old (call.Wait list.now all (optional timed deadline) irql) }
+    ensures { outcome (answer_of waiting.told result) w.new ≡ unchecked w.old (call.Wait list.now all (optional (is_some deadline) (unwrap_or deadline 0)) irql) }
 {
-    if timed {
-        return waiting::wait(w, list, all, true, deadline, irql);
-    }
-    waiting::wait(w, list, all, false, 0, irql)
+    waiting::wait(
+        w,
+        list,
+        all,
+        deadline.is_some(),
+        deadline.unwrap_or(0),
+        irql,
+    )
 }
 
+// Apart from `dpc_image`, as in `scheduler_images`.
 pub fn timer_image(w: &[u64], address: u64, out: &mut [u8]) -> Result<u64, SchedulerError>
     ensures { imaged (answer_of answer.Count result) out.new ≡ unchecked w.now (call.Reads (call.TimerImage address (length out.old))) out.old }
 {

@@ -6,17 +6,13 @@ ghost use Rattle.exports.specs.SchedulerAnswer.{truth, given, changed_by, given_
 ghost use Rattle.raw_exports.specs.Dispatch.{dispatched_by};
 ghost use Rattle.unchecked.specs.Unchecked.{unchecked};
 
-use exports::scheduler_answer::put_answer;
+use exports::scheduler_answer::{change, put_answer};
 
 #[unsafe(no_mangle)]
 pub extern "C" fn unchecked_create_thread(words: &mut [u64], priority: u64, out: &mut [u64]) -> u64
     ensures { given result words.new out.new ≡ changed_by words.old out.old (unchecked words.old (call.CreateThread priority)) }
 {
-    if out.len() < 4 {
-        return 27;
-    }
-    let answer = threading::create_thread(words, priority);
-    put_answer(out, answer.into())
+    change(words, out, |w| threading::create_thread(w, priority))
 }
 
 #[unsafe(no_mangle)]
@@ -28,44 +24,28 @@ pub extern "C" fn unchecked_priority(
 ) -> u64
     ensures { given result words.new out.new ≡ changed_by words.old out.old (unchecked words.old (call.Priority id priority)) }
 {
-    if out.len() < 4 {
-        return 27;
-    }
-    let answer = threading::priority(words, id, priority);
-    put_answer(out, answer.into())
+    change(words, out, |w| threading::priority(w, id, priority))
 }
 
 #[unsafe(no_mangle)]
 pub extern "C" fn unchecked_yield_current(words: &mut [u64], out: &mut [u64]) -> u64
     ensures { given result words.new out.new ≡ changed_by words.old out.old (unchecked words.old call.YieldCurrent) }
 {
-    if out.len() < 4 {
-        return 27;
-    }
-    let answer = threading::yield_current(words);
-    put_answer(out, answer.into())
+    change(words, out, |w| threading::yield_current(w))
 }
 
 #[unsafe(no_mangle)]
 pub extern "C" fn unchecked_terminate(words: &mut [u64], status: u32, out: &mut [u64]) -> u64
     ensures { given result words.new out.new ≡ changed_by words.old out.old (unchecked words.old (call.Terminate status)) }
 {
-    if out.len() < 4 {
-        return 27;
-    }
-    let answer = threading::terminate(words, status);
-    put_answer(out, answer.into())
+    change(words, out, |w| threading::terminate(w, status))
 }
 
 #[unsafe(no_mangle)]
 pub extern "C" fn unchecked_initialize_mutex(words: &mut [u64], key: u64, out: &mut [u64]) -> u64
     ensures { given result words.new out.new ≡ changed_by words.old out.old (unchecked words.old (call.InitializeMutex key)) }
 {
-    if out.len() < 4 {
-        return 27;
-    }
-    let answer = mutexes::initialize_mutex(words, key);
-    put_answer(out, answer.into())
+    change(words, out, |w| mutexes::initialize_mutex(w, key))
 }
 
 #[unsafe(no_mangle)]
@@ -78,22 +58,18 @@ pub extern "C" fn unchecked_adopt_mutex(
 ) -> u64
     ensures { given result words.new out.new ≡ changed_by words.old out.old (unchecked words.old (call.AdoptMutex key (optional (truth owned) owner))) }
 {
-    if out.len() < 4 {
-        return 27;
-    }
-    let answer = unchecked::adopt_mutex(words, key, owned != 0, owner);
-    put_answer(out, answer.into())
+    change(
+        words,
+        out,
+        |w| unchecked::adopt_mutex(w, key, (owned != 0).then_some(owner)),
+    )
 }
 
 #[unsafe(no_mangle)]
 pub extern "C" fn unchecked_release_mutex(words: &mut [u64], key: u64, out: &mut [u64]) -> u64
     ensures { given result words.new out.new ≡ changed_by words.old out.old (unchecked words.old (call.ReleaseMutex key)) }
 {
-    if out.len() < 4 {
-        return 27;
-    }
-    let answer = mutexes::release_mutex(words, key);
-    put_answer(out, answer.into())
+    change(words, out, |w| mutexes::release_mutex(w, key))
 }
 
 #[unsafe(no_mangle)]
@@ -106,33 +82,25 @@ pub extern "C" fn unchecked_initialize_event(
 ) -> u64
     ensures { given result words.new out.new ≡ changed_by words.old out.old (unchecked words.old (call.InitializeEvent key (truth manual) (truth signaled))) }
 {
-    if out.len() < 4 {
-        return 27;
-    }
-    let answer = events::initialize_event(words, key, manual != 0, signaled != 0);
-    put_answer(out, answer.into())
+    change(
+        words,
+        out,
+        |w| events::initialize_event(w, key, manual != 0, signaled != 0),
+    )
 }
 
 #[unsafe(no_mangle)]
 pub extern "C" fn unchecked_set_event(words: &mut [u64], key: u64, out: &mut [u64]) -> u64
     ensures { given result words.new out.new ≡ changed_by words.old out.old (unchecked words.old (call.SetEvent key)) }
 {
-    if out.len() < 4 {
-        return 27;
-    }
-    let answer = events::set_event(words, key);
-    put_answer(out, answer.into())
+    change(words, out, |w| events::set_event(w, key))
 }
 
 #[unsafe(no_mangle)]
 pub extern "C" fn unchecked_reset_event(words: &mut [u64], key: u64, out: &mut [u64]) -> u64
     ensures { given result words.new out.new ≡ changed_by words.old out.old (unchecked words.old (call.ResetEvent key)) }
 {
-    if out.len() < 4 {
-        return 27;
-    }
-    let answer = events::reset_event(words, key);
-    put_answer(out, answer.into())
+    change(words, out, |w| events::reset_event(w, key))
 }
 
 #[unsafe(no_mangle)]
@@ -145,11 +113,11 @@ pub extern "C" fn unchecked_retire_event_backing(
 ) -> u64
     ensures { given result words.new out.new ≡ changed_by words.old out.old (unchecked words.old (call.RetireEventBacking base size layout)) }
 {
-    if out.len() < 4 {
-        return 27;
-    }
-    let answer = event_release::retire_event_backing(words, base, size, layout);
-    put_answer(out, answer.into())
+    change(
+        words,
+        out,
+        |w| event_release::retire_event_backing(w, base, size, layout),
+    )
 }
 
 #[unsafe(no_mangle)]
@@ -161,22 +129,14 @@ pub extern "C" fn unchecked_delay_until(
 ) -> u64
     ensures { given result words.new out.new ≡ changed_by words.old out.old (unchecked words.old (call.DelayUntil deadline irql)) }
 {
-    if out.len() < 4 {
-        return 27;
-    }
-    let answer = waiting::delay_until(words, deadline, irql);
-    put_answer(out, answer.into())
+    change(words, out, |w| waiting::delay_until(w, deadline, irql))
 }
 
 #[unsafe(no_mangle)]
 pub extern "C" fn unchecked_advance_to(words: &mut [u64], time: u64, out: &mut [u64]) -> u64
     ensures { given result words.new out.new ≡ changed_by words.old out.old (unchecked words.old (call.AdvanceTo time)) }
 {
-    if out.len() < 4 {
-        return 27;
-    }
-    let answer = advancing::advance_to(words, time);
-    put_answer(out, answer.into())
+    change(words, out, |w| advancing::advance_to(w, time))
 }
 
 #[unsafe(no_mangle)]
@@ -191,11 +151,11 @@ pub extern "C" fn unchecked_wait(
 ) -> u64
     ensures { given result words.new out.new ≡ changed_by words.old out.old (unchecked words.old (call.Wait list.now (truth all) (optional (truth timed) deadline) irql)) }
 {
-    if out.len() < 4 {
-        return 27;
-    }
-    let answer = unchecked::wait(words, list, all != 0, timed != 0, deadline, irql);
-    put_answer(out, answer.into())
+    change(
+        words,
+        out,
+        |w| unchecked::wait(w, list, all != 0, (timed != 0).then_some(deadline), irql),
+    )
 }
 
 #[unsafe(no_mangle)]

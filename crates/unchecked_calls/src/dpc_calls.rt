@@ -6,7 +6,7 @@ ghost use Rattle.exports.specs.RecordCall.{started_by};
 ghost use Rattle.unchecked.specs.Unchecked.{unchecked};
 
 use exports::record_answer::put_work_answer;
-use exports::scheduler_answer::put_answer;
+use exports::scheduler_answer::change;
 
 #[unsafe(no_mangle)]
 pub extern "C" fn unchecked_configure_dpc_dispatch(
@@ -17,11 +17,11 @@ pub extern "C" fn unchecked_configure_dpc_dispatch(
 ) -> u64
     ensures { given result words.new out.new ≡ changed_by words.old out.old (unchecked words.old (call.ConfigureDpcDispatch first second)) }
 {
-    if out.len() < 4 {
-        return 27;
-    }
-    let answer = dpc_work::configure_dpc_dispatch(words, first, second);
-    put_answer(out, answer.into())
+    change(
+        words,
+        out,
+        |w| dpc_work::configure_dpc_dispatch(w, first, second),
+    )
 }
 
 #[unsafe(no_mangle)]
@@ -34,11 +34,11 @@ pub extern "C" fn unchecked_insert_queue_dpc(
 ) -> u64
     ensures { given result words.new out.new ≡ changed_by words.old out.old (unchecked words.old (call.InsertQueueDpc address first second)) }
 {
-    if out.len() < 4 {
-        return 27;
-    }
-    let answer = dpc_work::insert_queue_dpc(words, address, first, second);
-    put_answer(out, answer.into())
+    change(
+        words,
+        out,
+        |w| dpc_work::insert_queue_dpc(w, address, first, second),
+    )
 }
 
 #[unsafe(no_mangle)]
@@ -49,11 +49,7 @@ pub extern "C" fn unchecked_remove_queue_dpc(
 ) -> u64
     ensures { given result words.new out.new ≡ changed_by words.old out.old (unchecked words.old (call.RemoveQueueDpc address)) }
 {
-    if out.len() < 4 {
-        return 27;
-    }
-    let answer = dpc_work::remove_queue_dpc(words, address);
-    put_answer(out, answer.into())
+    change(words, out, |w| dpc_work::remove_queue_dpc(w, address))
 }
 
 #[unsafe(no_mangle)]
@@ -76,11 +72,7 @@ pub extern "C" fn unchecked_returned_dpc(
 ) -> u64
     ensures { given result words.new out.new ≡ changed_by words.old out.old (unchecked words.old (call.ReturnedDpc address sequence)) }
 {
-    if out.len() < 4 {
-        return 27;
-    }
-    let answer = dpc_work::returned_dpc(words, address, sequence);
-    put_answer(out, answer.into())
+    change(words, out, |w| dpc_work::returned_dpc(w, address, sequence))
 }
 
 #[unsafe(no_mangle)]
@@ -92,9 +84,5 @@ pub extern "C" fn unchecked_restored_dpc(
 ) -> u64
     ensures { given result words.new out.new ≡ changed_by words.old out.old (unchecked words.old (call.RestoredDpc address sequence)) }
 {
-    if out.len() < 4 {
-        return 27;
-    }
-    let answer = dpc_work::restored_dpc(words, address, sequence);
-    put_answer(out, answer.into())
+    change(words, out, |w| dpc_work::restored_dpc(w, address, sequence))
 }

@@ -6,7 +6,7 @@ ghost use Rattle.backings.specs.Lent.{lent_backing};
 ghost use Rattle.exports.specs.SchedulerAnswer.{truth, given, changed_by};
 ghost use Rattle.unchecked.specs.Unchecked.{unchecked};
 
-use exports::scheduler_answer::put_answer;
+use exports::scheduler_answer::change;
 
 #[unsafe(no_mangle)]
 pub extern "C" fn unchecked_initialize_timer(
@@ -22,13 +22,13 @@ pub extern "C" fn unchecked_initialize_timer(
 ) -> u64
     ensures { given result words.new out.new ≡ changed_by words.old out.old (unchecked words.old (call.InitializeTimer address (architecture_of architecture) (lent_backing architecture backing base size mapped) (truth manual))) }
 {
-    if out.len() < 4 {
-        return 27;
-    }
     let a = images::architecture_of(architecture);
     let b = backings::lent_backing(architecture, backing, base, size, mapped);
-    let answer = timers::initialize::initialize_timer(words, address, a, b, manual != 0);
-    put_answer(out, answer.into())
+    change(
+        words,
+        out,
+        |w| timers::initialize::initialize_timer(w, address, a, b, manual != 0),
+    )
 }
 
 #[unsafe(no_mangle)]
@@ -46,13 +46,13 @@ pub extern "C" fn unchecked_initialize_dpc(
 ) -> u64
     ensures { given result words.new out.new ≡ changed_by words.old out.old (unchecked words.old (call.InitializeDpc address (architecture_of architecture) (lent_backing architecture backing base size mapped) routine context)) }
 {
-    if out.len() < 4 {
-        return 27;
-    }
     let a = images::architecture_of(architecture);
     let b = backings::lent_backing(architecture, backing, base, size, mapped);
-    let answer = timers::initialize::initialize_dpc(words, address, a, b, routine, context);
-    put_answer(out, answer.into())
+    change(
+        words,
+        out,
+        |w| timers::initialize::initialize_dpc(w, address, a, b, routine, context),
+    )
 }
 
 #[unsafe(no_mangle)]
@@ -67,11 +67,11 @@ pub extern "C" fn unchecked_set_timer(
 ) -> u64
     ensures { given result words.new out.new ≡ changed_by words.old out.old (unchecked words.old (call.SetTimer address due (truth absolute) period dpc)) }
 {
-    if out.len() < 4 {
-        return 27;
-    }
-    let answer = arming::set_timer(words, address, due, absolute != 0, period, dpc);
-    put_answer(out, answer.into())
+    change(
+        words,
+        out,
+        |w| arming::set_timer(w, address, due, absolute != 0, period, dpc),
+    )
 }
 
 // A due of -d is d ticks from now; a due that is not negative is a time.
@@ -86,22 +86,18 @@ pub extern "C" fn unchecked_set_timer_signed(
 ) -> u64
     ensures { given result words.new out.new ≡ changed_by words.old out.old (unchecked words.old (call.SetTimerSigned address due period dpc)) }
 {
-    if out.len() < 4 {
-        return 27;
-    }
-    let answer = arming::set_timer_signed(words, address, due, period, dpc);
-    put_answer(out, answer.into())
+    change(
+        words,
+        out,
+        |w| arming::set_timer_signed(w, address, due, period, dpc),
+    )
 }
 
 #[unsafe(no_mangle)]
 pub extern "C" fn unchecked_cancel_timer(words: &mut [u64], address: u64, out: &mut [u64]) -> u64
     ensures { given result words.new out.new ≡ changed_by words.old out.old (unchecked words.old (call.CancelTimer address)) }
 {
-    if out.len() < 4 {
-        return 27;
-    }
-    let answer = arming::cancel_timer(words, address);
-    put_answer(out, answer.into())
+    change(words, out, |w| arming::cancel_timer(w, address))
 }
 
 #[unsafe(no_mangle)]
@@ -113,9 +109,9 @@ pub extern "C" fn unchecked_retire_timer_backing(
 ) -> u64
     ensures { given result words.new out.new ≡ changed_by words.old out.old (unchecked words.old (call.RetireTimerBacking address size)) }
 {
-    if out.len() < 4 {
-        return 27;
-    }
-    let answer = timers::release::retire_timer_backing(words, address, size);
-    put_answer(out, answer.into())
+    change(
+        words,
+        out,
+        |w| timers::release::retire_timer_backing(w, address, size),
+    )
 }

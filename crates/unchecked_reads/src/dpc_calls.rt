@@ -6,93 +6,61 @@ ghost use Rattle.exports.specs.SchedulerAnswer.{given};
 ghost use Rattle.exports.specs.RecordCall.{read_by};
 ghost use Rattle.unchecked.specs.Unchecked.{unchecked};
 
-use exports::record_answer::{put_counters_answer, put_dpc_answer, put_policy_answer};
-use exports::scheduler_answer::put_answer;
+use exports::record_answer::{counters_answer, dpc_answer, policy_answer};
+use exports::scheduler_answer::answer;
 
 #[unsafe(no_mangle)]
 pub extern "C" fn unchecked_dpc_initializations(words: &[u64], out: &mut [u64]) -> u64
     ensures { given result words.now out.new ≡ read_by kind.plain words.now out.old (unchecked words.now (call.Reads call.DpcInitializations)) }
 {
-    if out.len() < 4 {
-        return 27;
-    }
-    let answer = dpc_reads::dpc_initializations(words);
-    put_answer(out, answer.into())
+    answer(out, dpc_reads::dpc_initializations(words))
 }
 
 #[unsafe(no_mangle)]
 pub extern "C" fn unchecked_queued_dpcs(words: &[u64], position: u64, out: &mut [u64]) -> u64
     ensures { given result words.now out.new ≡ read_by kind.plain words.now out.old (unchecked words.now (call.Reads (call.QueuedDpcs position))) }
 {
-    if out.len() < 4 {
-        return 27;
-    }
-    let answer = dpc_reads::queued_dpcs(words, position);
-    put_answer(out, answer.into())
+    answer(out, dpc_reads::queued_dpcs(words, position))
 }
 
 #[unsafe(no_mangle)]
 pub extern "C" fn unchecked_dpc(words: &[u64], address: u64, out: &mut [u64]) -> u64
     ensures { given result words.now out.new ≡ read_by kind.dpcs words.now out.old (unchecked words.now (call.Reads (call.DpcAt address))) }
 {
-    if out.len() < 24 {
-        return 27;
-    }
-    let answer = dpc_reads::dpc(words, address).map(Some);
-    put_dpc_answer(out, answer)
+    dpc_answer(out, dpc_reads::dpc(words, address).map(Some))
 }
 
 #[unsafe(no_mangle)]
 pub extern "C" fn unchecked_dpcs(words: &[u64], position: u64, out: &mut [u64]) -> u64
     ensures { given result words.now out.new ≡ read_by kind.dpcs words.now out.old (unchecked words.now (call.Reads (call.Dpcs position))) }
 {
-    if out.len() < 24 {
-        return 27;
-    }
-    let answer = dpc_reads::dpcs_at(words, position);
-    put_dpc_answer(out, Ok(answer))
+    dpc_answer(out, Ok(dpc_reads::dpcs_at(words, position)))
 }
 
 #[unsafe(no_mangle)]
 pub extern "C" fn unchecked_active_dpc(words: &[u64], out: &mut [u64]) -> u64
     ensures { given result words.now out.new ≡ read_by kind.dpcs words.now out.old (unchecked words.now (call.Reads call.ActiveDpc)) }
 {
-    if out.len() < 24 {
-        return 27;
-    }
-    let answer = dpc_reads::active_dpc(words);
-    put_dpc_answer(out, Ok(answer))
+    dpc_answer(out, Ok(dpc_reads::active_dpc(words)))
 }
 
 #[unsafe(no_mangle)]
 pub extern "C" fn unchecked_next_dpc(words: &[u64], out: &mut [u64]) -> u64
     ensures { given result words.now out.new ≡ read_by kind.dpcs words.now out.old (unchecked words.now (call.Reads call.NextDpc)) }
 {
-    if out.len() < 24 {
-        return 27;
-    }
-    let answer = dpc_reads::next_dpc(words);
-    put_dpc_answer(out, Ok(answer))
+    dpc_answer(out, Ok(dpc_reads::next_dpc(words)))
 }
 
 #[unsafe(no_mangle)]
 pub extern "C" fn unchecked_dpc_policy(words: &[u64], out: &mut [u64]) -> u64
     ensures { given result words.now out.new ≡ read_by kind.policies words.now out.old (unchecked words.now (call.Reads call.DpcPolicy)) }
 {
-    if out.len() < 24 {
-        return 27;
-    }
-    let answer = dpc_reads::dpc_policy(words);
-    put_policy_answer(out, Ok(answer))
+    policy_answer(out, Ok(dpc_reads::dpc_policy(words)))
 }
 
 #[unsafe(no_mangle)]
 pub extern "C" fn unchecked_dpc_counters(words: &[u64], out: &mut [u64]) -> u64
     ensures { given result words.now out.new ≡ read_by kind.counts words.now out.old (unchecked words.now (call.Reads call.DpcCounters)) }
 {
-    if out.len() < 24 {
-        return 27;
-    }
-    let answer = dpc_reads::dpc_counters(words);
-    put_counters_answer(out, Ok(answer))
+    counters_answer(out, Ok(dpc_reads::dpc_counters(words)))
 }

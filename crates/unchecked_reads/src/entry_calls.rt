@@ -6,27 +6,19 @@ ghost use Rattle.entries.specs.Entries.{event_entry, timer_entry};
 ghost use Rattle.exports.specs.SchedulerAnswer.{given};
 ghost use Rattle.exports.specs.RecordCall.{read_by};
 
-use exports::record_answer::put_timer_answer;
-use exports::scheduler_answer::put_answer;
+use exports::record_answer::timer_answer;
+use exports::scheduler_answer::answer;
 
 #[unsafe(no_mangle)]
 pub extern "C" fn unchecked_event_entry(words: &[u64], entry: u64, out: &mut [u64]) -> u64
     ensures { given result words.now out.new ≡ read_by kind.plain words.now out.old (event_entry words.now «entry») }
 {
-    if out.len() < 4 {
-        return 27;
-    }
-    let answer = entries::event_entry(words, entry);
-    put_answer(out, answer.into())
+    answer(out, entries::event_entry(words, entry))
 }
 
 #[unsafe(no_mangle)]
 pub extern "C" fn unchecked_timer_entry(words: &[u64], entry: u64, out: &mut [u64]) -> u64
     ensures { given result words.now out.new ≡ read_by kind.timers words.now out.old (timer_entry words.now «entry») }
 {
-    if out.len() < 24 {
-        return 27;
-    }
-    let answer = entries::timer_entry(words, entry);
-    put_timer_answer(out, answer)
+    timer_answer(out, entries::timer_entry(words, entry))
 }

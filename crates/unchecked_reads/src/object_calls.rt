@@ -6,61 +6,41 @@ ghost use Rattle.exports.specs.SchedulerAnswer.{given};
 ghost use Rattle.exports.specs.RecordCall.{read_by};
 ghost use Rattle.unchecked.specs.Unchecked.{unchecked};
 
-use exports::scheduler_answer::put_answer;
+use exports::scheduler_answer::answer;
 
 #[unsafe(no_mangle)]
 pub extern "C" fn unchecked_current(words: &[u64], out: &mut [u64]) -> u64
     ensures { given result words.now out.new ≡ read_by kind.plain words.now out.old (unchecked words.now (call.Reads call.Current)) }
 {
-    if out.len() < 4 {
-        return 27;
-    }
-    let answer = threading::current(words);
-    put_answer(out, answer.into())
+    answer(out, threading::current(words))
 }
 
 #[unsafe(no_mangle)]
 pub extern "C" fn unchecked_mutex_owner(words: &[u64], key: u64, out: &mut [u64]) -> u64
     ensures { given result words.now out.new ≡ read_by kind.plain words.now out.old (unchecked words.now (call.Reads (call.MutexOwner key))) }
 {
-    if out.len() < 4 {
-        return 27;
-    }
-    let answer = mutexes::mutex_owner(words, key);
-    put_answer(out, answer.into())
+    answer(out, mutexes::mutex_owner(words, key))
 }
 
 #[unsafe(no_mangle)]
 pub extern "C" fn unchecked_mutex_waiters(words: &[u64], key: u64, out: &mut [u64]) -> u64
     ensures { given result words.now out.new ≡ read_by kind.plain words.now out.old (unchecked words.now (call.Reads (call.MutexWaiters key))) }
 {
-    if out.len() < 4 {
-        return 27;
-    }
-    let answer = mutexes::mutex_waiters(words, key);
-    put_answer(out, answer.into())
+    answer(out, mutexes::mutex_waiters(words, key))
 }
 
 #[unsafe(no_mangle)]
 pub extern "C" fn unchecked_event_state(words: &[u64], key: u64, out: &mut [u64]) -> u64
     ensures { given result words.now out.new ≡ read_by kind.plain words.now out.old (unchecked words.now (call.Reads (call.EventState key))) }
 {
-    if out.len() < 4 {
-        return 27;
-    }
-    let answer = events::event_state(words, key);
-    put_answer(out, answer.into())
+    answer(out, events::event_state(words, key))
 }
 
 #[unsafe(no_mangle)]
 pub extern "C" fn unchecked_event_states(words: &[u64], position: u64, out: &mut [u64]) -> u64
     ensures { given result words.now out.new ≡ read_by kind.plain words.now out.old (unchecked words.now (call.Reads (call.EventStates position))) }
 {
-    if out.len() < 4 {
-        return 27;
-    }
-    let answer = event_release::event_states(words, position);
-    put_answer(out, answer.into())
+    answer(out, event_release::event_states(words, position))
 }
 
 #[unsafe(no_mangle)]
@@ -73,9 +53,8 @@ pub extern "C" fn unchecked_require_event_release(
 ) -> u64
     ensures { given result words.now out.new ≡ read_by kind.plain words.now out.old (unchecked words.now (call.Reads (call.RequireEventRelease base size layout))) }
 {
-    if out.len() < 4 {
-        return 27;
-    }
-    let answer = event_release::require_event_release(words, base, size, layout);
-    put_answer(out, answer.into())
+    answer(
+        out,
+        event_release::require_event_release(words, base, size, layout),
+    )
 }

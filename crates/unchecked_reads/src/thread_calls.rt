@@ -6,28 +6,20 @@ ghost use Rattle.exports.specs.SchedulerAnswer.{given};
 ghost use Rattle.exports.specs.RecordCall.{read_by};
 ghost use Rattle.unchecked.specs.Unchecked.{unchecked};
 
-use exports::record_answer::{put_place_answer, put_thread_answer};
+use exports::record_answer::{place_answer, thread_answer};
 
 #[unsafe(no_mangle)]
 pub extern "C" fn unchecked_thread(words: &[u64], id: u64, out: &mut [u64]) -> u64
     ensures { given result words.now out.new ≡ read_by kind.threads words.now out.old (unchecked words.now (call.Reads (call.Thread id))) }
 {
-    if out.len() < 24 {
-        return 27;
-    }
-    let answer = dispatcher::read::thread(words, id);
-    put_thread_answer(out, Ok(answer))
+    thread_answer(out, Ok(dispatcher::read::thread(words, id)))
 }
 
 #[unsafe(no_mangle)]
 pub extern "C" fn unchecked_threads(words: &[u64], position: u64, out: &mut [u64]) -> u64
     ensures { given result words.now out.new ≡ read_by kind.threads words.now out.old (unchecked words.now (call.Reads (call.Threads position))) }
 {
-    if out.len() < 24 {
-        return 27;
-    }
-    let answer = dispatcher::read::threads_at(words, position);
-    put_thread_answer(out, Ok(answer))
+    thread_answer(out, Ok(dispatcher::read::threads_at(words, position)))
 }
 
 #[unsafe(no_mangle)]
@@ -39,9 +31,8 @@ pub extern "C" fn unchecked_waited_object(
 ) -> u64
     ensures { given result words.now out.new ≡ read_by kind.places words.now out.old (unchecked words.now (call.Reads (call.WaitedObject id position))) }
 {
-    if out.len() < 24 {
-        return 27;
-    }
-    let answer = dispatcher::read::waited_object(words, id, position);
-    put_place_answer(out, Ok(answer))
+    place_answer(
+        out,
+        Ok(dispatcher::read::waited_object(words, id, position)),
+    )
 }

@@ -6,8 +6,8 @@ ghost use Rattle.exports.specs.SchedulerAnswer.{given};
 ghost use Rattle.exports.specs.RecordCall.{read_by};
 ghost use Rattle.unchecked.specs.Unchecked.{unchecked};
 
-use exports::record_answer::put_timer_answer;
-use exports::scheduler_answer::put_answer;
+use exports::record_answer::timer_answer;
+use exports::scheduler_answer::answer;
 
 #[unsafe(no_mangle)]
 pub extern "C" fn unchecked_require_timer_release(
@@ -18,22 +18,17 @@ pub extern "C" fn unchecked_require_timer_release(
 ) -> u64
     ensures { given result words.now out.new ≡ read_by kind.plain words.now out.old (unchecked words.now (call.Reads (call.RequireTimerRelease address size))) }
 {
-    if out.len() < 4 {
-        return 27;
-    }
-    let answer = timers::release::require_timer_release(words, address, size);
-    put_answer(out, answer.into())
+    answer(
+        out,
+        timers::release::require_timer_release(words, address, size),
+    )
 }
 
 #[unsafe(no_mangle)]
 pub extern "C" fn unchecked_timer_initializations(words: &[u64], out: &mut [u64]) -> u64
     ensures { given result words.now out.new ≡ read_by kind.plain words.now out.old (unchecked words.now (call.Reads call.TimerInitializations)) }
 {
-    if out.len() < 4 {
-        return 27;
-    }
-    let answer = timers::reads::timer_initializations(words);
-    put_answer(out, answer.into())
+    answer(out, timers::reads::timer_initializations(words))
 }
 
 #[unsafe(no_mangle)]
@@ -45,11 +40,7 @@ pub extern "C" fn unchecked_timer_read_overlap(
 ) -> u64
     ensures { given result words.now out.new ≡ read_by kind.plain words.now out.old (unchecked words.now (call.Reads (call.TimerReadOverlap address size))) }
 {
-    if out.len() < 4 {
-        return 27;
-    }
-    let answer = timers::reads::timer_read_overlap(words, address, size);
-    put_answer(out, answer.into())
+    answer(out, timers::reads::timer_read_overlap(words, address, size))
 }
 
 #[unsafe(no_mangle)]
@@ -61,42 +52,29 @@ pub extern "C" fn unchecked_timer_metadata_overlap(
 ) -> u64
     ensures { given result words.now out.new ≡ read_by kind.plain words.now out.old (unchecked words.now (call.Reads (call.TimerMetadataOverlap address size))) }
 {
-    if out.len() < 4 {
-        return 27;
-    }
-    let answer = timers::reads::timer_metadata_overlap(words, address, size);
-    put_answer(out, answer.into())
+    answer(
+        out,
+        timers::reads::timer_metadata_overlap(words, address, size),
+    )
 }
 
 #[unsafe(no_mangle)]
 pub extern "C" fn unchecked_timer(words: &[u64], address: u64, out: &mut [u64]) -> u64
     ensures { given result words.now out.new ≡ read_by kind.timers words.now out.old (unchecked words.now (call.Reads (call.TimerAt address))) }
 {
-    if out.len() < 24 {
-        return 27;
-    }
-    let answer = timers::reads::timer(words, address).map(Some);
-    put_timer_answer(out, answer)
+    timer_answer(out, timers::reads::timer(words, address).map(Some))
 }
 
 #[unsafe(no_mangle)]
 pub extern "C" fn unchecked_timers(words: &[u64], position: u64, out: &mut [u64]) -> u64
     ensures { given result words.now out.new ≡ read_by kind.timers words.now out.old (unchecked words.now (call.Reads (call.Timers position))) }
 {
-    if out.len() < 24 {
-        return 27;
-    }
-    let answer = timers::reads::timers_at(words, position);
-    put_timer_answer(out, Ok(answer))
+    timer_answer(out, Ok(timers::reads::timers_at(words, position)))
 }
 
 #[unsafe(no_mangle)]
 pub extern "C" fn unchecked_pending_timer_dpc(words: &[u64], out: &mut [u64]) -> u64
     ensures { given result words.now out.new ≡ read_by kind.timers words.now out.old (unchecked words.now (call.Reads call.PendingTimerDpc)) }
 {
-    if out.len() < 24 {
-        return 27;
-    }
-    let answer = timers::reads::pending_timer_dpc(words);
-    put_timer_answer(out, Ok(answer))
+    timer_answer(out, Ok(timers::reads::pending_timer_dpc(words)))
 }

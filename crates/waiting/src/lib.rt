@@ -1,7 +1,7 @@
 // The calls by which the current thread waits.
 #![tactic(auto)]
 
-ghost use Rattle.std.specs.Prelude.{◌≡◌, ◌≤◌, ◌==◌, not};
+ghost use Rattle.std.specs.Prelude.{◌≡◌, ◌≤◌, ◌==◌, not, drop};
 ghost use Rattle.answers.specs.Errors.{refusal, answer_of};
 ghost use Rattle.answers.specs.Outcome.{outcome};
 ghost use Rattle.waiting.specs.Wait.{pair_count, list_refusal, wait_refusal, block_refusal, reached, with_result, left, parked, blocked_words, granted, timed_out, decided, waited, delay_wait, delayed, told_result, told};
@@ -9,7 +9,7 @@ ghost use Rattle.waiting.specs.Wait.{pair_count, list_refusal, wait_refusal, blo
 use answers::Answer;
 use answers::error::SchedulerError;
 use chains::ready;
-use waits::lists;
+use waits::lists::Pairs;
 use words::layout;
 
 // A wait that has ended.
@@ -38,13 +38,18 @@ impl From<WaitOutcome> for Answer {
     }
 }
 
-// How many pairs the list has, at most 64.
+// The pairs of the list, the first 64 of them.
 #[tactic(auto, unfolding(crate::specs::Wait::pair_count))]
-fn pairs(list: &[u64]) -> usize
-    ensures count { result ≡ pair_count list.now }
-    ensures most { result ≤ 64 }
+fn pairs(list: &[u64]) -> Pairs<'_>
+    ensures src { result.src.now ≡ list.now }
+    ensures at { result.at ≡ 0 }
+    ensures n { result.n ≡ pair_count list.now }
 {
-    (list.len() / 2).min(64)
+    Pairs {
+        src: list,
+        at: 0,
+        n: (list.len() / 2).min(64),
+    }
 }
 
 // Whether the list is one to wait for: 1 to 64 pairs, no kind over 3, no duplicate.
@@ -55,8 +60,8 @@ fn check_list(list: &[u64]) -> Result<(), SchedulerError>
     if list.len() % 2 != 0 || list.is_empty() || 128 < list.len() {
         return Err(SchedulerError::InvalidList);
     }
-    let n = pairs(list);
-    if lists::has_bad_kind(list, 0, n) || lists::has_duplicate(list, 0, n) {
+    let list = pairs(list);
+    if list.has_bad_kind() || list.has_duplicate() {
         return Err(SchedulerError::InvalidList);
     }
     Ok(())
@@ -71,11 +76,11 @@ fn check_wait(w: &[u64], list: &[u64]) -> Result<(), SchedulerError>
         return Err(SchedulerError::NoCurrentThread);
     }
     check_list(list)?;
-    let n = pairs(list);
-    if lists::has_unknown(w, list, 0, n) {
+    let list = pairs(list);
+    if list.has_unknown(w) {
         return Err(SchedulerError::Unknown);
     }
-    if lists::has_owned(w, id, list, 0, n) {
+    if list.has_owned(w, id) {
         return Err(SchedulerError::OwnMutex);
     }
     Ok(())
@@ -130,9 +135,11 @@ fn park(w: &mut [u64], id: u64)
         ..threads::read_thread(w, id)
     };
     threads::write_thread(w, id, t);
-    chains::push(w, ready::waiters_chain(), id);
+    ready::waiters_chain().push(w, id);
 }
 
+// That the count is at most 64 is asked here, in `decide` and in `threads::write_wait`, and is no ghost field of `threads::Wait`: the
+// definitions make a record of any count.
 #[tactic(auto, unfolding(crate::specs::Wait::blocked_words))]
 fn block(w: &mut [u64], id: u64, x: threads::Wait)
     requires { x.count ≤ 64 }
@@ -144,13 +151,11 @@ fn block(w: &mut [u64], id: u64, x: threads::Wait)
 }
 
 // A wait that is granted at once.
-#[tactic(auto, unfolding(crate::specs::Wait::granted))]
-fn grant(w: &mut [u64], id: u64, list: &[u64], n: usize, all: u64) -> WaitResult
-    requires { n ≤ 64 }
-    ensures { outcome (told_result result) w.new ≡ granted w.old id list.now n all }
+fn grant(w: &mut [u64], id: u64, list: &Pairs<'_>, all: u64) -> WaitResult
+    ensures { outcome (told_result result) w.new ≡ granted w.old id (drop list.now.at list.now.src.now) list.now.n all }
 {
-    let i = lists::index(w, list, 0, n, all);
-    lists::takes_list(w, id, list, n, all);
+    let i = list.index(w, all);
+    list.take(w, id, all);
     set_result(w, id, std::num::wrapping_add_u64(i, threads::SATISFIED));
     WaitResult::Satisfied(i)
 }
@@ -182,8 +187,8 @@ fn decide(
     Ok(WaitOutcome::Blocked)
 }
 
-// The current thread waits for any or all of the objects of `list`, pairs of a kind and a key. The words keep the deadline as
-// it is given, also where it does not count.
+// The current thread waits for any or all of the objects of `list`, pairs of a kind and a key. No Option of a deadline: the words keep
+// it as it is given also where it does not count, and `raw_exports` promises that.
 #[tactic(auto, using(crate::proofs::WaitLaws::recorded_timed, crate::proofs::WaitLaws::recorded_count), unfolding(crate::specs::Wait::waited, crate::specs::Wait::decided_list))]
 pub fn wait(
     w: &mut [u64],
@@ -197,13 +202,13 @@ pub fn wait(
 {
     check_wait(w, list)?;
     let id = words::get(w, layout::CURRENT);
-    let n = pairs(list);
+    let pairs = pairs(list);
     let every = u64::from(all);
-    if lists::is_met(w, list, 0, n, every) {
-        return Ok(WaitOutcome::Immediate(grant(w, id, list, n, every)));
+    if pairs.is_met(w, every) {
+        return Ok(WaitOutcome::Immediate(grant(w, id, &pairs, every)));
     }
     let sequence = words::get(w, layout::SEQUENCE);
-    let x = threads::record_of(list, n, every, u64::from(timed), deadline, sequence);
+    let x = threads::record_of(list, pairs.n, every, u64::from(timed), deadline, sequence);
     decide(w, id, irql as u64, x)
 }
 

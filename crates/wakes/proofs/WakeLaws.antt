@@ -4,11 +4,8 @@ use native.Mathlib.Omega.{arith}
 use mathlib.Core.List.{List}
 use mathlib.Core.Bool.{Bool, cond, true, false}
 use mathlib.Core.Path.{◌≡◌, refl}
-use lib.ListN.{get_or}
-use lib.Dec.{eqb, leb}
-use borrow.Author.Tests.{eq-eqb, ne_eqb, leb-true}
-use Rattle.words.specs.Layout as at
-use Rattle.words.specs.Layout.{thread_at}
+use lib.Dec.{eqb}
+use borrow.Author.Tests.{eq-eqb, ne_eqb}
 use Rattle.chains.specs.Chain.{first_of, next_of, members_of}
 use Rattle.chains.specs.Ready.{waiters_chain}
 use Rattle.threads.specs.Thread.{count_of}
@@ -16,18 +13,14 @@ use Rattle.waits.specs.Lists.{first_in, index_in}
 use Rattle.wakes.specs.Wake.{visited, visited_to, passed, waits_for, waits_in, waits_on}
 use Rattle.std.specs.List.{list_any}
 use Rattle.chains.proofs.WalkLaws.{any-members}
+use Rattle.waits.proofs.ListLaws as lists
 use Rattle.waits.proofs.ListLaws.{first-within}
 
 less_one : (k : ℕ) → suc k - 1 ≡ k
 less_one k = omega arith
 
 pub count_most : (w : List ℕ) (id : ℕ) → count_of w id ≤ 64
-unfolding count_of
-count_most w id = go (leb (get_or w (thread_at id + at.wait_count) 0) 64) refl
-  where
-    go : (b : Bool) → leb (get_or w (thread_at id + at.wait_count) 0) 64 ≡ b → cond b (get_or w (thread_at id + at.wait_count) 0) 64 ≤ 64
-    go true e = leb-true _ _ e
-    go false e = omega arith
+count_most = lists.count_most
 
 pub index-most : (w src : List ℕ) (at n all : ℕ) → index_in w src at n all ≤ n
 unfolding index_in

@@ -33,22 +33,22 @@ fn awaken(w: &mut [u64], before: u64, id: u64)
     let at = threads::places_at(id);
     let n = threads::count_of(w, id);
     let all = threads::all_of(w, id);
-    let i = lists::index(w, w, at, n, all);
+    let i = lists::places(w, id).index(w, all);
     lists::takes_own(w, id, at, n, all);
-    chains::unlink(w, ready::waiters_chain(), before, id);
+    ready::waiters_chain().unlink(w, before, id);
     make_ready(w, id, i + threads::SATISFIED);
 }
 
 // Whether a waiting thread's wait can be granted. A delay waits for no object.
-#[tactic(auto, unfolding(crate::specs::Wake::grantable), using(crate::proofs::WakeLaws::count_most))]
+#[tactic(auto, unfolding(crate::specs::Wake::grantable))]
 pub fn is_grantable(w: &[u64], id: u64) -> bool
     ensures { result ≡ grantable w.now id }
 {
-    let n = threads::count_of(w, id);
-    if n == 0 {
+    let list = lists::places(w, id);
+    if list.n == 0 {
         return false;
     }
-    lists::is_met(w, w, threads::places_at(id), n, threads::all_of(w, id))
+    list.is_met(w, threads::all_of(w, id))
 }
 
 // A waiting thread woken if its wait can be granted. Answers the one that now comes before the next.
@@ -68,24 +68,23 @@ pub fn wake(w: &mut [u64])
     ensures { w.new ≡ awake w.old }
 {
     let mut before: u64 = 0;
-    let mut at = chains::first_of(w, ready::waiters_chain());
+    let mut at = ready::waiters_chain().front(w);
     for _ in 0..chains::MOST {
         if at == 0 {
             return;
         }
-        let next = chains::next_of(w, ready::waiters_chain(), at);
+        let next = ready::waiters_chain().after(w, at);
         before = visit(w, before, at);
         at = next;
     }
 }
 
 // Whether the thread's wait names the object.
-#[tactic(auto, unfolding(crate::specs::Wake::waits_for), using(crate::proofs::WakeLaws::count_most))]
+#[tactic(auto, unfolding(crate::specs::Wake::waits_for))]
 fn waits_for(w: &[u64], id: u64, kind: u64, key: u64) -> bool
     ensures { result ≡ waits_for w.now kind key id }
 {
-    let n = threads::count_of(w, id);
-    lists::has_pair(w, threads::places_at(id), 0, n, kind, key)
+    lists::places(w, id).has(kind, key)
 }
 
 // Whether some thread waits for the object.

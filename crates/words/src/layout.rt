@@ -1,4 +1,5 @@
-// Where things stand in the lent words: a header of 256 words, then 160 words a thread, 32 an object, 32 a DPC.
+// Where things stand in the lent words: a header of 256 words, then 160 words a thread, 32 an object, 32 a DPC. A record is named by its place,
+// beside the words and what is asked of it: no struct holds the place, since the words are lent anew as they change.
 ghost use Rattle.std.specs.Prelude.{◌≡◌};
 ghost use Rattle.words.specs.Layout.{thread_at, objects_at, entry_at};
 
@@ -204,7 +205,7 @@ pub fn thread_at(id: u64) -> usize
     }
 }
 
-// Where the objects start, behind the records of `t` threads.
+// Where the objects start, behind the records of `t` threads. Like `thread_at` by its arithmetic alone.
 #[tactic(auto, unfolding(crate::specs::Layout::objects_at))]
 pub fn objects_at(t: u64) -> usize
     ensures { result ≡ objects_at t }

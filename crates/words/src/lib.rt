@@ -60,7 +60,7 @@ pub fn without_bit(m: u64, p: u64) -> u64
     m & (bit(p) ^ 0xffff_ffff)
 }
 
-// The highest set bit of the low 32, or 0 where none is set.
+// The highest set bit of the low 32, or 0 where none is set: no Option, since bit 0 is no priority's.
 pub fn top_bit(m: u64) -> u64
     ensures { result ≡ top_bit m }
 {

@@ -7,7 +7,7 @@ use Rattle.answers.proofs.Converted.{told-is, told-outcome, told-or-none}
 use Rattle.answers.specs.declared.Answer.TheVariants.{Flag}
 use Rattle.answers.specs.Errors.{thread_or_none}
 use Rattle.dpc_reads.specs.Reads.{count_or_none}
-use Rattle.commands.proofs.CommandLaws.{told-read, no_words}
+use Rattle.commands.proofs.CommandLaws.{told-read, handed-on, no_words}
 use Rattle.commands.specs.Commands.{asked, on_words, waited}
 use Rattle.commands.proofs.on_words.Goals as goal
 
@@ -49,7 +49,7 @@ returns-in-MutexOwner c = simp c.in-MutexOwner.is (cc (c.bare-in-MutexOwner.ensu
 
 pub returns-in-AdoptMutex : goal.returns-in-AdoptMutex
 unfolding asked on_words
-returns-in-AdoptMutex c = simp c.in-AdoptMutex.is (told-outcome _ _ _ _ _ c.into-in-AdoptMutex.ensures (λ x b e. e) c.adopt_mutex.ensures)
+returns-in-AdoptMutex c = simp (c.in-AdoptMutex.is, ← handed-on c.in-AdoptMutex.owner) (told-outcome _ _ _ _ _ c.into-in-AdoptMutex.ensures (λ x b e. e) c.adopt_mutex.ensures)
 
 pub returns-in-MutexWaiters : goal.returns-in-MutexWaiters
 unfolding asked on_words

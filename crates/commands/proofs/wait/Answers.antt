@@ -2,6 +2,7 @@ use borrow.Author.Tests.{lt-ltb, le-ltb}
 use lib.ListN.{length-take}
 use native.Mathlib.Omega.{arith}
 use Rattle.answers.proofs.Converted.{told-outcome}
+use Rattle.commands.proofs.CommandLaws.{handed-on}
 use Rattle.commands.specs.Commands.{waited, on_words}
 use Rattle.commands.proofs.wait.Goals as goal
 
@@ -14,4 +15,4 @@ slice_bounds-wait-end c = simp length-take (omega arith)
 
 pub returns : goal.returns
 unfolding waited on_words
-returns c = simp (le-ltb _ _ c.if-list-count.false) (told-outcome _ _ _ _ _ c.into.ensures (λ x b e. e) c.wait.ensures)
+returns c = simp (le-ltb _ _ c.if-list-count.false, ← handed-on c.args.deadline) (told-outcome _ _ _ _ _ c.into.ensures (λ x b e. e) c.wait.ensures)

@@ -1,6 +1,7 @@
-use mathlib.Core.Path.{◌∙◌, sym}
-use borrow.Author.Tests.{not-true, not-false}
+use mathlib.Core.Path.{◌∙◌, sym, ap}
 use lib.Seq.{length-take-le}
+use Rattle.script_lex.specs.Names as name
+use Rattle.script_lex.specs.Words.{first, same}
 use Rattle.explain_line.specs.Explain.{session_reason}
 use Rattle.explain_line.proofs.session_reason.Goals as goal
 
@@ -8,13 +9,13 @@ pub returns-then-not-opened : goal.returns-then-not-opened
 unfolding session_reason
 returns-then-not-opened c = simp (c.if-not-opened.true)
 
-pub slice_bounds-is_word-end : goal.slice_bounds-is_word-end
-slice_bounds-is_word-end c = sym (length-take-le _ _ c.text_length-n.ensures.upper_bound)
+pub slice_bounds-of-end : goal.slice_bounds-of-end
+slice_bounds-of-end c = sym (length-take-le _ _ c.text_length-n.ensures.upper_bound)
 
-pub returns-then-is_word : goal.returns-then-is_word
+pub returns-then-is : goal.returns-then-is
 unfolding session_reason
-returns-then-is_word c = simp (c.if-not-opened.false, ← c.text_length-n.ensures.value, sym c.is_word.ensures ∙ c.if-is_word.true)
+returns-then-is c = simp (c.if-not-opened.false, ← c.text_length-n.ensures.value, sym (c.is.ensures ∙ ap (λ ws. same (first ws) name.opens) c.of.ensures.words) ∙ c.if-is.true)
 
 pub returns : goal.returns
 unfolding session_reason
-returns c = simp (c.if-not-opened.false, ← c.text_length-n.ensures.value, sym c.is_word.ensures ∙ c.if-is_word.false)
+returns c = simp (c.if-not-opened.false, ← c.text_length-n.ensures.value, sym (c.is.ensures ∙ ap (λ ws. same (first ws) name.opens) c.of.ensures.words) ∙ c.if-is.false)

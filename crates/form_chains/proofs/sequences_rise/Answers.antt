@@ -15,13 +15,13 @@ pub returns-then-at-eq0 : goal.returns-then-at-eq0
 returns-then-at-eq0 c = sym (sequences-end _ _ _ (omega arith) c.if-at-eq0.true) ∙ c.loop.invariant
 
 pub returns-then-sequence_at : goal.returns-then-sequence_at
-returns-then-sequence_at c = let e : c.next_of-next.result ≡ next_of c.args.w.now waiters_chain c.loop.at = cc in
-    let l : sequence_at c.args.w.now c.next_of-next.result ≤ sequence_at c.args.w.now c.loop.at = omega (arith, c.sequence_at.ensures, c.sequence_at-in-loop.ensures) in
+returns-then-sequence_at c = let e : c.after-next.result ≡ next_of c.args.w.now waiters_chain c.loop.at = cc in
+    let l : sequence_at c.args.w.now c.after-next.result ≤ sequence_at c.args.w.now c.loop.at = omega (arith, c.sequence_at.ensures, c.sequence_at-in-loop.ensures) in
     sym (sequences-stop (4096 - c.loop.counter) c.args.w.now c.loop.at (omega arith) c.if-at-eq0.false (rw (← e) l)) ∙ c.loop.invariant
 
 pub loop-preserved : goal.loop-preserved
-loop-preserved c = let e : c.next_of-next.result ≡ next_of c.args.w.now waiters_chain c.loop.at = cc in
-    let l : sequence_at c.args.w.now c.loop.at < sequence_at c.args.w.now c.next_of-next.result = omega (arith, c.sequence_at.ensures, c.sequence_at-in-loop.ensures) in
+loop-preserved c = let e : c.after-next.result ≡ next_of c.args.w.now waiters_chain c.loop.at = cc in
+    let l : sequence_at c.args.w.now c.loop.at < sequence_at c.args.w.now c.after-next.result = omega (arith, c.sequence_at.ensures, c.sequence_at-in-loop.ensures) in
     let f : 4096 - (c.loop.counter + 1) ≡ 4096 - c.loop.counter - 1 = omega arith in
     cc (f, sequences-more (4096 - c.loop.counter) c.args.w.now c.loop.at (omega arith) c.if-at-eq0.false (rw (← e) l))
 

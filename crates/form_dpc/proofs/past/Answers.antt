@@ -1,16 +1,17 @@
 use native.Mathlib.Omega.{arith}
-use Prim.Native.Nat.{◌-◌}
-use Rattle.form_dpc.proofs.PastLaws.{past-none, past_stop, past-step}
+use mathlib.Core.Path.{refl, ◌∙◌}
+use lib.Dec.{ltb}
+use mathlib.Core.Bool.{not}
+use Rattle.std.proofs.Common.{rules, tests, ◌+◌, ◌-◌}
+use Rattle.tables.specs.Table.{key_at}
+use Rattle.words.proofs.Walks.{cond-not, place_from_walk}
+use Rattle.form_dpc.specs.Place.{past_in}
 use Rattle.form_dpc.proofs.past.Goals as goal
 
-pub loop-i-init : goal.loop-i-init
-loop-i-init c = cc
-
-pub returns-then-key-key_at : goal.returns-then-key-key_at
-returns-then-key-key_at c = cc (past_stop (c.args.n - c.loop-i.i) c.args.w.now c.args.base c.loop-i.i c.args.key (omega (arith, c.key_at.ensures, c.if-key-key_at.true)))
-
-pub loop-i-preserved : goal.loop-i-preserved
-loop-i-preserved c = past-step c.args.n c.args.w.now c.args.base c.loop-i.i c.args.key c.loop-i-test.true (omega (arith, c.key_at.ensures, c.if-key-key_at.false)) c.loop-i.invariant
-
 pub returns : goal.returns
-returns c = cc (past-none (c.args.n - c.loop-i.i) c.args.w.now c.args.base c.loop-i.i c.args.key (omega (arith, c.loop-i-test.false)))
+unfolding past_in
+returns c =
+    c.unwrap_or.ensures
+    ∙ place_from_walk (λ i. not (ltb (key_at c.args.w.now c.args.base i) c.args.key)) (λ m i. past_in m c.args.w.now c.args.base i c.args.key)
+    (λ i. refl) (λ m i. cond-not (ltb (key_at c.args.w.now c.args.base i) c.args.key) (past_in m c.args.w.now c.args.base (i + 1) c.args.key) i)
+    _ _ _ c.args.from _ (c.args.n - c.args.from) _ c.find.ensures.ran refl refl (omega (arith, c.max.ensures)) (λ x b q k. search (rules, tests))

@@ -1,6 +1,5 @@
-use Rattle.objects.specs.Objects.{dpc_found}
+use Rattle.objects.proofs.FoundLaws.{dpc-some}
 use Rattle.objects.proofs.find_dpc.Goals as goal
 
 pub returns : goal.returns
-unfolding dpc_found
-returns c = cc
+returns c = simp (c.found_at.ensures, c.dpcs_base.ensures, c.get.ensures, dpc-some c.args.w.now c.args.address)

@@ -1,6 +1,5 @@
-use Rattle.objects.specs.Objects.{object_found}
+use Rattle.objects.proofs.FoundLaws.{object-some}
 use Rattle.objects.proofs.find_object.Goals as goal
 
 pub returns : goal.returns
-unfolding object_found
-returns c = cc
+returns c = simp (c.found_at.ensures, c.objects_base.ensures, c.get.ensures, object-some c.args.w.now c.args.key)

@@ -7,10 +7,10 @@ pub returns-then-is_end : goal.returns-then-is_end
 unfolding words_reason
 returns-then-is_end c = simp (sym c.is_end.ensures ∙ c.if-is_end.true)
 
-pub returns-then-is_word : goal.returns-then-is_word
+pub returns-then-is : goal.returns-then-is
 unfolding words_reason
-returns-then-is_word c = simp (sym c.is_end.ensures ∙ c.if-is_end.false, sym c.is_word.ensures ∙ c.if-is_word.true, ← c.behind.ensures) c.clock_reason.ensures
+returns-then-is c = simp (sym c.is_end.ensures ∙ c.if-is_end.false, sym c.is.ensures ∙ c.if-is.true, ← c.rest.ensures.words) c.clock_reason.ensures
 
 pub returns : goal.returns
 unfolding words_reason
-returns c = simp (sym c.is_end.ensures ∙ c.if-is_end.false, sym c.is_word.ensures ∙ c.if-is_word.false, ← table) c.named_reason.ensures
+returns c = simp (sym c.is_end.ensures ∙ c.if-is_end.false, sym c.is.ensures ∙ c.if-is.false, ← table) c.named_reason.ensures

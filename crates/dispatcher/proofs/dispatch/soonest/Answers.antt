@@ -1,18 +1,15 @@
-use Rattle.std.proofs.Common.{arith, ◌≡◌, ◌∙◌, ◌+◌, ◌-◌, sym}
-use Rattle.dispatcher.specs.Dispatch.{soonest, no_due}
-use Rattle.dispatcher.proofs.DispatchLaws.{soonest-none, soonest-end, soonest-more}
+use mathlib.Core.Path.{◌∙◌, sym}
+use Rattle.std.proofs.Common.{rules}
+use Rattle.std.proofs.lemmas.Iterator.Consumers.{YieldsList-from_first, fold_from_yields_List}
+use Rattle.chains.specs.Chain.{members_of}
+use Rattle.chains.specs.Members.{members_left}
+use Rattle.chains.specs.Ready.{waiters_chain}
+use Rattle.dispatcher.specs.Dispatch.{no_due, due_after}
+use Rattle.dispatcher.proofs.DispatchLaws.{soonest-fold}
 use Rattle.dispatcher.proofs.dispatch.soonest.Goals as goal
 
-pub loop-init : goal.loop-init
-unfolding soonest no_due
-loop-init c = cc
-
-pub returns-then-at-eq0 : goal.returns-then-at-eq0
-returns-then-at-eq0 c = sym (soonest-end _ _ _ _ c.if-at-eq0.true) ∙ c.loop.invariant
-
-pub loop-preserved : goal.loop-preserved
-loop-preserved c = let e : 4096 - (c.loop.counter + 1) ≡ 4096 - c.loop.counter - 1 = omega arith in
-    cc (soonest-more (4096 - c.loop.counter) c.args.w.now c.loop.seen c.loop.at (omega arith) c.if-at-eq0.false)
-
 pub returns : goal.returns
-returns c = sym (soonest-none _ _ _ _ (omega arith)) ∙ c.loop.invariant
+unfolding no_due
+returns c =
+    fold_from_yields_List _ (due_after c.args.w.now) _ c.fold.result c.fold.ensures.ran (YieldsList-from_first (λ x. x) members_left (members_of c.args.w.now waiters_chain) cc) (λ d x r q k. search rules)
+    ∙ sym (soonest-fold c.args.w.now)

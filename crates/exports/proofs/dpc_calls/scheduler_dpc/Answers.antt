@@ -1,15 +1,11 @@
-use mathlib.Core.Path.{refl, ◌∙◌}
+use mathlib.Core.Path.{refl, ◌∙◌, ap}
 use Rattle.std.proofs.Common.{rules}
+use Rattle.calls.specs.Guard as kind
+use Rattle.exports.specs.RecordCall.{read_by}
+use Rattle.exports.proofs.RecordLaws.{told-known}
 use Rattle.dpc_reads.specs.Reads as reads
 use Rattle.dpc_reads.specs.DpcAnswer as answer
-use Rattle.exports.specs.SchedulerAnswer.{given}
-use Rattle.exports.proofs.RecordLaws.{read_short, read-by, told-known}
 use Rattle.exports.proofs.dpc_calls.scheduler_dpc.Goals as goal
 
-pub returns-then-out-lt24 : goal.returns-then-out-lt24
-returns-then-out-lt24 c = read_short _ c.args.words.now c.args.out.now _ c.if-out-lt24.true
-
 pub returns : goal.returns
-returns c = (λ i. given (c.put_dpc_answer.ensures.0 i) c.args.words.now (c.put_dpc_answer.ensures.1 i))
-    ∙ read-by _ c.args.words.now c.args.out.now _ _ c.if-out-lt24.false
-    (told-known reads.told answer.Refused reads.known (λ x. refl) (λ e. refl) (λ x y q. search rules) c.dpc.result _ c.map-answer.ensures.cases ∙ c.dpc.ensures)
+returns c = c.dpc_answer.ensures c.args.words.now ∙ ap (read_by kind.dpcs c.args.words.now c.args.out.now) ((told-known reads.told answer.Refused reads.known (λ x. refl) (λ e. refl) (λ x y q. search rules) c.dpc.result _ c.map.ensures.cases ∙ c.dpc.ensures))

@@ -1,12 +1,6 @@
 use mathlib.Core.Path.{◌∙◌}
 use Rattle.answers.proofs.Converted.{told-is}
-use Rattle.exports.specs.SchedulerAnswer.{given}
-use Rattle.exports.proofs.RecordLaws.{read_short, read-by}
 use Rattle.exports.proofs.dpc_calls.scheduler_dpc_initializations.Goals as goal
 
-pub returns-then-out-lt4 : goal.returns-then-out-lt4
-returns-then-out-lt4 c = read_short _ c.args.words.now c.args.out.now _ c.if-out-lt4.true
-
 pub returns : goal.returns
-returns c = (λ i. given (c.put_answer.ensures.0 i) c.args.words.now (c.put_answer.ensures.1 i))
-    ∙ read-by _ c.args.words.now c.args.out.now c.into.result _ c.if-out-lt4.false (told-is _ _ _ c.into.ensures (λ x b e. e) ∙ c.dpc_initializations-answer.ensures)
+returns c = c.answer.ensures _ (λ x says. (told-is _ _ x says (λ x b e. e) ∙ c.dpc_initializations.ensures)) _

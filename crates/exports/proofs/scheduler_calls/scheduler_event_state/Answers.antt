@@ -1,12 +1,7 @@
 use mathlib.Core.Path.{refl, ◌∙◌}
 use Rattle.answers.proofs.Converted.{told-is, told-or-none}
 use Rattle.events.specs.Events.{told}
-use Rattle.exports.specs.SchedulerAnswer.{given}
-use Rattle.exports.proofs.RecordLaws.{read_short, read-by}
 use Rattle.exports.proofs.scheduler_calls.scheduler_event_state.Goals as goal
 
-pub returns-then-out-lt4 : goal.returns-then-out-lt4
-returns-then-out-lt4 c = read_short _ c.args.words.now c.args.out.now _ c.if-out-lt4.true
-
 pub returns : goal.returns
-returns c = (λ i. given (c.put_answer.ensures.0 i) c.args.words.now (c.put_answer.ensures.1 i)) ∙ read-by _ c.args.words.now c.args.out.now c.into.result _ c.if-out-lt4.false (told-is _ _ _ c.into.ensures (told-or-none told refl (λ x b e. e)) ∙ c.event_state-answer.ensures)
+returns c = c.answer.ensures _ (λ x says. (told-is _ _ x says (told-or-none told refl (λ x b e. e)) ∙ c.event_state.ensures)) _

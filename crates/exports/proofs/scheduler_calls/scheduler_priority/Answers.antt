@@ -1,11 +1,9 @@
-use mathlib.Core.Path.{◌∙◌}
+use Rattle.std.proofs.Common.{rules, tests}
 use Rattle.answers.proofs.Converted.{told-outcome}
-use Rattle.exports.specs.SchedulerAnswer.{given}
-use Rattle.exports.proofs.AnswerLaws.{changed-short, changed-by}
+use Rattle.answers.specs.declared.Answer.TheVariants.{Done}
+use Rattle.model.specs.Call as call
+use Rattle.calls.specs.Called.{called}
 use Rattle.exports.proofs.scheduler_calls.scheduler_priority.Goals as goal
 
-pub returns-then-out-lt4 : goal.returns-then-out-lt4
-returns-then-out-lt4 c = changed-short c.args.words.now c.args.out.now _ c.if-out-lt4.true
-
 pub returns : goal.returns
-returns c = (λ i. given (c.put_answer.ensures.0 i) c.priority-answer.new.w (c.put_answer.ensures.1 i)) ∙ changed-by c.args.words.now c.args.out.now _ c.into.result c.priority-answer.new.w c.if-out-lt4.false (told-outcome _ _ _ _ _ c.into.ensures (λ x b e. e) c.priority-answer.ensures)
+returns c = c.change.ensures (λ w. called w (call.Priority c.args.id c.args.priority)) (λ w r after a ran says. told-outcome (λ x. Done) r a after.now _ says (λ x b e. e) (search (rules, tests)))

@@ -1,15 +1,10 @@
-use mathlib.Core.Path.{◌∙◌}
+use Rattle.std.proofs.Common.{rules, tests}
 use Rattle.answers.proofs.Converted.{told-outcome}
-use Rattle.model.specs.Call as call
+use Rattle.answers.specs.declared.Answer.TheVariants.{Done}
 use Rattle.calls.specs.Called.{called}
-use Rattle.exports.specs.SchedulerAnswer.{given}
-use Rattle.exports.proofs.AnswerLaws.{changed-short, changed-by}
+use Rattle.images.specs.Place.{architecture_of, backing_of}
+use Rattle.model.specs.Call as call
 use Rattle.exports.proofs.timer_calls.scheduler_initialize_dpc.Goals as goal
 
-pub returns-then-out-lt4 : goal.returns-then-out-lt4
-returns-then-out-lt4 c = changed-short c.args.words.now c.args.out.now _ c.if-out-lt4.true
-
 pub returns : goal.returns
-returns c = (λ i. given (c.put_answer.ensures.0 i) c.initialize_dpc-answer.new.w (c.put_answer.ensures.1 i))
-    ∙ changed-by c.args.words.now c.args.out.now _ c.into.result c.initialize_dpc-answer.new.w c.if-out-lt4.false
-    (told-outcome _ _ _ _ _ c.into.ensures (λ x b e. e) (c.initialize_dpc-answer.ensures ∙ (λ i. called c.args.words.now (call.InitializeDpc c.args.address (c.architecture_of-a.ensures i) (c.backing_of-b.ensures i) c.args.routine c.args.context))))
+returns c = c.change.ensures (λ w. called w (call.InitializeDpc c.args.address (architecture_of c.args.architecture) (backing_of c.args.backing c.args.base c.args.size c.args.mapped) c.args.routine c.args.context)) (λ w r after a ran says. told-outcome (λ x. Done) r a after.now _ says (λ x b e. e) (search (rules, tests)))

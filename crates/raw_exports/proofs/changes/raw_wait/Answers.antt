@@ -1,11 +1,8 @@
-use mathlib.Core.Path.{◌∙◌}
+use Rattle.std.proofs.Common.{rules, tests}
 use Rattle.answers.proofs.Converted.{told-outcome}
-use Rattle.exports.specs.SchedulerAnswer.{given}
-use Rattle.exports.proofs.AnswerLaws.{changed-short, changed-by}
+use Rattle.exports.specs.SchedulerAnswer.{truth}
+use Rattle.waiting.specs.Wait as wait
 use Rattle.raw_exports.proofs.changes.raw_wait.Goals as goal
 
-pub returns-then-out-lt4 : goal.returns-then-out-lt4
-returns-then-out-lt4 c = changed-short c.args.words.now c.args.out.now _ c.if-out-lt4.true
-
 pub returns : goal.returns
-returns c = (λ i. given (c.put_answer.ensures.0 i) c.wait-answer.new.w (c.put_answer.ensures.1 i)) ∙ changed-by c.args.words.now c.args.out.now _ c.into.result c.wait-answer.new.w c.if-out-lt4.false (told-outcome _ _ _ _ _ c.into.ensures (λ x b e. e) c.wait-answer.ensures)
+returns c = c.change.ensures (λ w. wait.waited w c.args.list.now (truth c.args.all) (truth c.args.timed) c.args.deadline c.args.irql) (λ w r after a ran says. told-outcome wait.told r a after.now _ says (λ x b e. e) (search (rules, tests)))

@@ -1,12 +1,8 @@
-use mathlib.Core.Path.{◌∙◌}
+use Rattle.std.proofs.Common.{rules, tests}
 use Rattle.answers.proofs.Converted.{told-outcome}
-use Rattle.exports.specs.SchedulerAnswer.{given}
-use Rattle.exports.proofs.AnswerLaws.{changed-short, changed-by}
+use Rattle.answers.specs.declared.Answer.TheVariants as answer
+use Rattle.dpc_work.specs.Work as calls
 use Rattle.raw_exports.proofs.dpc_calls.raw_insert_queue_dpc.Goals as goal
 
-pub returns-then-out-lt4 : goal.returns-then-out-lt4
-returns-then-out-lt4 c = changed-short c.args.words.now c.args.out.now _ c.if-out-lt4.true
-
 pub returns : goal.returns
-returns c = (λ i. given (c.put_answer.ensures.0 i) c.insert_queue_dpc-answer.new.w (c.put_answer.ensures.1 i))
-    ∙ changed-by c.args.words.now c.args.out.now _ c.into.result c.insert_queue_dpc-answer.new.w c.if-out-lt4.false (told-outcome _ _ _ _ _ c.into.ensures (λ x b e. e) c.insert_queue_dpc-answer.ensures)
+returns c = c.change.ensures (λ w. calls.queue_inserted w c.args.address c.args.first c.args.second) (λ w r after a ran says. told-outcome answer.Flag r a after.now _ says (λ x b e. e) (search (rules, tests)))

@@ -1,18 +1,11 @@
-use mathlib.Core.Path.{refl, sym, ◌∙◌}
-use Rattle.reasons.proofs.TableLaws.{fewer, listed-end, listed_here, listed_more}
+use Rattle.std.proofs.Common.{rules}
+use Rattle.std.proofs.lemmas.Iterator.Consumers.{YieldsList-from_first}
+use Rattle.std.proofs.lemmas.Iterator.Search.{any_from_yields_List}
+use Rattle.script_lex.specs.Words.{words_at, first, same}
+use Rattle.script_lex.specs.Left.{left}
+use Rattle.reasons.proofs.TableLaws.{listed-any}
 use Rattle.reasons.proofs.table.is_listed.Goals as goal
 
-pub loop-at-init : goal.loop-at-init
-loop-at-init c = refl
-
-pub returns-then-is_same_word : goal.returns-then-is_same_word
-returns-then-is_same_word c = sym (listed_here _ _ (sym c.is_end.ensures ∙ c.loop-at-test.true) (sym c.is_same_word.ensures ∙ c.if-is_same_word.true)) ∙ c.loop-at.invariant
-
-pub loop-at-smaller : goal.loop-at-smaller
-loop-at-smaller c = simp c.behind-i.ensures (fewer _ (sym c.is_end.ensures ∙ c.loop-at-test.true))
-
-pub loop-at-preserved : goal.loop-at-preserved
-loop-at-preserved c = simp c.behind-i.ensures (sym (listed_more _ _ (sym c.is_end.ensures ∙ c.loop-at-test.true) (sym c.is_same_word.ensures ∙ c.if-is_same_word.false)) ∙ c.loop-at.invariant)
-
 pub returns : goal.returns
-returns c = sym (listed-end _ _ (sym c.is_end.ensures ∙ c.loop-at-test.false)) ∙ c.loop-at.invariant
+returns c = rw (listed-any (words_at c.args.list.now 0) (first (left c.args.words)))
+    (any_from_yields_List (same (first (left c.args.words))) c.any.new.self _ c.any.result c.any.ensures.ran (YieldsList-from_first (λ x. x.now) left (words_at c.args.list.now 0) c.of.ensures.words) (λ x b q k. search rules))

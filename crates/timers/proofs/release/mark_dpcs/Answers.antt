@@ -1,26 +1,7 @@
-use native.Mathlib.Omega.{arith}
-use Prim.Native.Nat.{◌-◌}
-use mathlib.Core.Path.{◌≡◌, ◌∙◌, refl, sym}
-use Rattle.words.specs.Layout.{entry_at}
-use Rattle.words.proofs.Walks.{walk-more, walk-done}
-use Rattle.timers.specs.Record.{each_in}
-use Rattle.timers.specs.Release.{dpc_marked, dpcs_marked}
+use Rattle.std.proofs.Common.{rules, ◌∙◌}
+use Rattle.timers.specs.Release.{dpc_stands, marked, dpc_marked, dpcs_marked}
 use Rattle.timers.proofs.release.mark_dpcs.Goals as goal
 
-pub loop-i-init : goal.loop-i-init
-unfolding dpcs_marked
-loop-i-init c = let e : c.count-i-end.result - 0 ≡ c.count-i-end.result = omega arith in cc
-
-pub loop-i-preserved : goal.loop-i-preserved
-unfolding each_in
-loop-i-preserved c =
-    cc (walk-more (λ i v. dpc_marked v (entry_at c.dpcs_base-base.result i) c.args.address c.args.size)
-    (λ m i v. each_in m (λ v place. dpc_marked v place c.args.address c.args.size) v c.dpcs_base-base.result i)
-    (λ m i v. refl) c.count-i-end.result c.loop-i.i c.loop-i.w c.loop-i-test.true)
-
 pub returns : goal.returns
-unfolding each_in
-returns c =
-    sym (walk-done (λ m i v. each_in m (λ v place. dpc_marked v place c.args.address c.args.size) v c.dpcs_base-base.result i)
-    (λ i v. refl) c.count-i-end.result c.loop-i.i c.loop-i.w c.loop-i-test.false)
-    ∙ c.loop-i.invariant
+unfolding dpcs_marked dpc_marked marked
+returns c = c.mark.ensures (λ w at. dpc_stands w at c.args.address c.args.size) (λ w at r p. search rules) ∙ search rules

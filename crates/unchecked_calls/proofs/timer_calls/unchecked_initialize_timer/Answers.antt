@@ -1,16 +1,13 @@
-use mathlib.Core.Path.{◌∙◌}
+use Rattle.std.proofs.Common.{rules, tests}
 use Rattle.answers.proofs.Converted.{told-outcome}
-use Rattle.model.specs.Call as call
-use Rattle.exports.specs.SchedulerAnswer.{given, truth}
-use Rattle.exports.proofs.AnswerLaws.{changed-short, changed-by}
+use Rattle.answers.specs.declared.Answer.TheVariants.{Done}
+use Rattle.images.specs.Place.{architecture_of}
+use Rattle.exports.specs.SchedulerAnswer.{truth}
 use Rattle.unchecked.specs.Unchecked.{unchecked}
+use Rattle.model.specs.Call as call
+use Rattle.backings.specs.Lent.{lent_backing}
 use Rattle.unchecked_calls.proofs.timer_calls.unchecked_initialize_timer.Goals as goal
-
-pub returns-then-out-lt4 : goal.returns-then-out-lt4
-returns-then-out-lt4 c = changed-short c.args.words.now c.args.out.now _ c.if-out-lt4.true
 
 pub returns : goal.returns
 unfolding unchecked
-returns c = (λ i. given (c.put_answer.ensures.0 i) c.initialize_timer-answer.new.w (c.put_answer.ensures.1 i))
-    ∙ changed-by c.args.words.now c.args.out.now _ c.into.result c.initialize_timer-answer.new.w c.if-out-lt4.false
-    (told-outcome _ _ _ _ _ c.into.ensures (λ x b e. e) (c.initialize_timer-answer.ensures ∙ (λ i. unchecked c.args.words.now (call.InitializeTimer c.args.address (c.architecture_of-a.ensures i) (c.lent_backing-b.ensures i) (truth c.args.manual)))))
+returns c = c.change.ensures (λ w. unchecked w (call.InitializeTimer c.args.address (architecture_of c.args.architecture) (lent_backing c.args.architecture c.args.backing c.args.base c.args.size c.args.mapped) (truth c.args.manual))) (λ w r after a ran says. told-outcome (λ x. Done) r a after.now _ says (λ x b e. e) (search (rules, tests)))

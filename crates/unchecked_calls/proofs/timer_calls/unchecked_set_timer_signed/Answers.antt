@@ -1,15 +1,10 @@
-use mathlib.Core.Path.{◌∙◌}
-use mir.Facts.{to_z-of_z}
+use Rattle.std.proofs.Common.{rules, tests}
 use Rattle.answers.proofs.Converted.{told-outcome}
-use Rattle.model.specs.Call as call
-use Rattle.exports.specs.SchedulerAnswer.{given}
-use Rattle.exports.proofs.AnswerLaws.{changed-short, changed-by}
+use Rattle.answers.specs.declared.Answer.TheVariants as answer
 use Rattle.unchecked.specs.Unchecked.{unchecked}
+use Rattle.model.specs.Call as call
 use Rattle.unchecked_calls.proofs.timer_calls.unchecked_set_timer_signed.Goals as goal
-
-pub returns-then-out-lt4 : goal.returns-then-out-lt4
-returns-then-out-lt4 c = changed-short c.args.words.now c.args.out.now _ c.if-out-lt4.true
 
 pub returns : goal.returns
 unfolding unchecked
-returns c = (λ i. given (c.put_answer.ensures.0 i) c.set_timer_signed-answer.new.w (c.put_answer.ensures.1 i)) ∙ changed-by c.args.words.now c.args.out.now _ c.into.result c.set_timer_signed-answer.new.w c.if-out-lt4.false (told-outcome _ _ _ _ _ c.into.ensures (λ x b e. e) (c.set_timer_signed-answer.ensures ∙ (λ i. unchecked c.args.words.now (call.SetTimerSigned c.args.address ((to_z-of_z c.ranges.due) i) ((to_z-of_z c.ranges.period) i) c.args.dpc))))
+returns c = c.change.ensures (λ w. unchecked w (call.SetTimerSigned c.args.address c.args.due c.args.period c.args.dpc)) (λ w r after a ran says. told-outcome answer.Flag r a after.now _ says (λ x b e. e) (search (rules, tests)))

@@ -1,13 +1,9 @@
-use mathlib.Core.Path.{◌∙◌}
-use Rattle.exports.specs.SchedulerAnswer.{given}
-use Rattle.exports.proofs.RecordLaws.{read_short, read-by}
+use mathlib.Core.Path.{◌∙◌, ap}
+use Rattle.calls.specs.Guard as kind
+use Rattle.exports.specs.RecordCall.{read_by}
 use Rattle.unchecked.specs.Unchecked.{unchecked}
 use Rattle.unchecked_reads.proofs.dpc_calls.unchecked_dpc_policy.Goals as goal
 
-pub returns-then-out-lt24 : goal.returns-then-out-lt24
-returns-then-out-lt24 c = read_short _ c.args.words.now c.args.out.now _ c.if-out-lt24.true
-
 pub returns : goal.returns
 unfolding unchecked
-returns c = (λ i. given (c.put_policy_answer.ensures.0 i) c.args.words.now (c.put_policy_answer.ensures.1 i))
-    ∙ read-by _ c.args.words.now c.args.out.now _ _ c.if-out-lt24.false c.dpc_policy-answer.ensures
+returns c = c.policy_answer.ensures c.args.words.now ∙ ap (read_by kind.policies c.args.words.now c.args.out.now) (c.dpc_policy.ensures)

@@ -4,11 +4,11 @@ use Rattle.waits.specs.Lists.{takes_own}
 use Rattle.waits.proofs.ListLaws.{first-within}
 use Rattle.waits.proofs.lists.takes_own.Goals as goal
 
-pub kind_in-kind-requires : goal.kind_in-kind-requires
-kind_in-kind-requires c = omega (arith, first-within c.args.n c.args.w.now c.args.w.now c.args.at 0, c.first-i.ensures)
+pub kind-kind-requires : goal.kind-kind-requires
+kind-kind-requires c = omega (arith, first-within c.args.n c.args.w.now c.args.w.now c.args.at 0, c.first-i.ensures)
 
-pub key_in-key-requires : goal.key_in-key-requires
-key_in-key-requires c = omega (arith, first-within c.args.n c.args.w.now c.args.w.now c.args.at 0, c.first-i.ensures)
+pub key-key-requires : goal.key-key-requires
+key-key-requires c = omega (arith, first-within c.args.n c.args.w.now c.args.w.now c.args.at 0, c.first-i.ensures)
 
 pub returns-then-all-eq0 : goal.returns-then-all-eq0
 unfolding takes_own

@@ -1,5 +1,0 @@
-use Rattle.script_lex.proofs.WordLaws.{is_none}
-use Rattle.script_lex.proofs.lex.is_end.Goals as goal
-
-pub returns : goal.returns
-returns c = is_none c.args.line.now c.args.at c.word_start.result c.word_start.ensures
