@@ -7,13 +7,13 @@ ghost use Rattle.answers.specs.Errors.{refusal, answer_of};
 ghost use Rattle.answers.specs.Outcome.{outcome};
 ghost use Rattle.words.specs.Layout as at;
 ghost use Rattle.objects.specs.Objects.{place_of};
-ghost use Rattle.arming.specs.Arm.{largest, named_elsewhere, new_refusal, set_refusal, named, unnamed, setting_of, setting_put, armed, timer_set, own_origin, own_work, own_queued, withdrawn_own, disarmed, timer_cancelled, timer_set_signed};
+ghost use Rattle.arming.specs.Arm.{largest, named_elsewhere, new_refusal, set_refusal, named, unnamed, setting_of, setting_put, armed, timer_set, own_work, own_queued, withdrawn_own, disarmed, timer_cancelled, timer_set_signed};
 
 use answers::error::SchedulerError;
 use timers::record;
 use words::layout;
 
-// What a timer is set to. `absolute` is 0 or 1; `arm` is how many times the timer has been set.
+// What a timer is set to. `absolute` is 0 or 1, as the word holds it; `arm` is how many times the timer has been set.
 #[derive(Clone, Copy, Debug, PartialEq, Eq)]
 pub struct Setting {
     pub due: u64,
@@ -157,25 +157,13 @@ pub fn set_timer(
 
 // ---- cancel_timer
 
-// Whether the work of the DPC at place `place` bears the key, the arm and the initialization of the timer at place `at`.
-#[tactic(auto, unfolding(crate::specs::Arm::own_origin, crate::specs::Arm::same_word))]
-fn is_own_origin(w: &[u64], at: usize, place: usize) -> bool
-    ensures { result ≡ own_origin w.now at place }
-{
-    words::get_in(w, place, layout::ORIGIN_TIMER) == words::get_in(w, at, layout::KEY)
-        && words::get_in(w, place, layout::ORIGIN_ARM) == words::get_in(w, at, layout::ARM)
-        && words::get_in(w, place, layout::ORIGIN_INITIALIZATION)
-            == words::get_in(w, at, layout::INITIALIZATION)
-}
-
 // Whether the work of the DPC at place `place` is queued and came from the timer at place `at`.
-#[tactic(auto, unfolding(crate::specs::Arm::own_work))]
+#[tactic(auto, unfolding(crate::specs::Arm::own_work, crate::specs::Arm::own_origin, crate::specs::Arm::same_word, expiry::specs::Check::is_own))]
 fn is_own_work(w: &[u64], at: usize, place: usize) -> bool
     ensures { result ≡ own_work w.now at place }
 {
     words::get_in(w, place, layout::PHASE) == dpc_queue::QUEUED
-        && words::get_in(w, place, layout::ORIGIN) == 1
-        && is_own_origin(w, at, place)
+        && expiry::check::is_own(w, place, at)
 }
 
 // Whether the timer at place `at` is inserted under a policy with a DPC whose queued work is its own.

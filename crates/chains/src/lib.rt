@@ -65,6 +65,8 @@ impl Chain {
         self.first as usize
     }
 
+    // The first record, 0 where there is none. No Option, here and in `after`: 0 ends a chain in the words, and the walks of the definitions
+    // ask for it.
     #[tactic(auto, unfolding(crate::specs::Chain::first_of))]
     pub fn front(self, w: &[u64]) -> u64
         ensures { result ≡ first_of w.now self }
@@ -72,6 +74,7 @@ impl Chain {
         words::get(w, self.first as usize)
     }
 
+    // The record after `n`, 0 at the end; after 0 comes the first.
     #[tactic(auto, unfolding(crate::specs::Chain::next_of))]
     pub fn after(self, w: &[u64], n: u64) -> u64
         ensures { result ≡ next_of w.now self n }

@@ -13,6 +13,7 @@ pub const FLUSH_EVERY: u16 = 1000;
 
 pub const CYCLES: u64 = 100;
 
+// Two comparisons, as in the ranges below: the proof of a range's `contains` is longer.
 pub fn offset_in_range(minutes: i32) -> bool
     ensures { result ≡ spec.offset_in_range minutes }
 {

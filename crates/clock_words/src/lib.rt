@@ -53,6 +53,7 @@ fn load(w: &[u64]) -> GuestClock
     }
 }
 
+// A line a word: the seven fields have four types, and a loop would need an array of their words first.
 fn store(w: &mut [u64], c: GuestClock)
     ensures { w.new ≡ put_clock w.old c }
 {
@@ -69,7 +70,7 @@ fn store(w: &mut [u64], c: GuestClock)
     words::put(w, 6, countdown);
 }
 
-// 0 or the number, as C takes it.
+// 0 or the number, as C takes it; so do `end`, `change`, `answer` and the calls answer.
 fn refusal_number(answer: Result<(), ClockError>) -> u64
     ensures { result ≡ refusal_number answer }
 {
@@ -84,11 +85,10 @@ fn refusal_number(answer: Result<(), ClockError>) -> u64
 fn end(w: &mut [u64], after: Outcome) -> u64
     ensures { returned result w.new ≡ ended w.old after }
 {
-    let number = refusal_number(after.answer);
-    if number != u64::from(ClockError::OutOfForm) {
+    if after.answer != Err(ClockError::OutOfForm) {
         store(w, after.clock);
     }
-    number
+    refusal_number(after.answer)
 }
 
 // A call that may change the clock, on its words.

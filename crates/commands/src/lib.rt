@@ -13,7 +13,7 @@ use scheduler::{changes, dpc_calls, reads, timer_calls};
 use script_lex::command::Command;
 use script_print::bare;
 
-// What `start_dpc` prints of the work: its sequence.
+// What `start_dpc` prints of the work: its sequence. A match, since the check did not find what `map` and `into` give one after the other.
 #[tactic(auto, unfolding(crate::specs::Commands::sequence_of))]
 fn sequence_of(started: Result<DpcWork, SchedulerError>) -> Answer
     ensures { result ≡ spec.sequence_of (work.told started) }
@@ -24,7 +24,7 @@ fn sequence_of(started: Result<DpcWork, SchedulerError>) -> Answer
     }
 }
 
-// The kinds and keys are the first `count` numbers of the list.
+// The kinds and keys are the first `count` numbers of the list. An `Answer`: what a script prints of a call is told in that type.
 fn wait(
     w: &mut [u64],
     list: &[u64],
@@ -41,7 +41,7 @@ fn wait(
     changes::wait(w, &list[..count], all, deadline, irql).into()
 }
 
-// The commands on the scheduler's words, but for a dispatch; another is none of them.
+// The commands on the scheduler's words, but for a dispatch; another is none of them. An `Answer`, as `wait` gives.
 pub fn on_words(w: &mut [u64], list: &[u64], c: Command) -> Answer
     ensures { outcome result w.new ≡ spec.on_words w.old (spec.asked list.now (Some c)) }
 {

@@ -8,6 +8,7 @@ ghost use Rattle.dispatcher.specs.Dispatch.{sooner, due_after, soonest, ran, is_
 
 use super::outcome::Dispatch;
 use super::timer_due::next_time;
+use answers::ThreadId;
 use answers::error::SchedulerError;
 use chains::ready;
 use words::layout;
@@ -100,8 +101,7 @@ pub fn dispatch(w: &mut [u64], out: &mut [u64]) -> Result<Dispatch, SchedulerErr
     if (out.len() as u64) < words::get(w, layout::THREAD_LIMIT) {
         return Err(SchedulerError::OutOfForm);
     }
-    let id = words::get(w, layout::CURRENT);
-    if id != 0 {
+    if let Some(ThreadId(id)) = threading::current(w) {
         return Ok(Dispatch::Run(id));
     }
     let p = words::top_bit(words::get(w, layout::READY));

@@ -7,7 +7,8 @@ use super::dispatch;
 use waits::lists;
 use words::layout;
 
-// `all` and `timed` are 0 or 1; `status` is an exited thread's; from `all` on, 0 for a thread that does not wait.
+// `all` and `timed` are 0 or 1; `status` is an exited thread's; from `all` on, 0 for a thread that does not wait. Words, as the
+// definitions and C's record have these fields.
 #[derive(Clone, Copy, Debug, PartialEq, Eq)]
 pub struct ThreadView {
     pub id: u64,

@@ -8,7 +8,8 @@ use dpcs::record;
 pub use dpcs::record::{IDLE, QUEUED, RETURNING, RUNNING};
 use words::layout;
 
-// Who puts the work into the queue: `timer` is 0 for a caller, whose other words are 0, and 1 for a timer.
+// Who puts the work into the queue: `timer` is 0 for a caller, whose other words are 0, and 1 for a timer. No enum: these are the words
+// of a record, and the definitions write all seven, whoever it is.
 #[derive(Clone, Copy, Debug, PartialEq, Eq)]
 pub struct Origin {
     pub timer: u64,
@@ -24,7 +25,7 @@ pub struct Origin {
 pub fn raise(w: &mut [u64], i: usize)
     ensures { w.new ≡ raised w.old i }
 {
-    let n = std::num::wrapping_add_u64(words::get(w, i), 1);
+    let n = words::get(w, i).wrapping_add(1);
     words::put(w, i, n);
 }
 
@@ -62,7 +63,7 @@ pub fn is_queued(w: &[u64], n: u64) -> bool
 pub fn accept(w: &mut [u64], n: u64, first: u64, second: u64, o: Origin)
     ensures { w.new ≡ accepted w.old n first second o }
 {
-    let sequence = std::num::wrapping_add_u64(words::get(w, layout::ACCEPTED), 1);
+    let sequence = words::get(w, layout::ACCEPTED).wrapping_add(1);
     let at = record::place(w, n);
     let queue = record::queue_chain(w);
     put_work(w, at, sequence, first, second);

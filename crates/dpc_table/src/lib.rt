@@ -34,6 +34,7 @@ fn put_idle(w: &mut [u64], at: usize, address: u64)
     words::put_in(w, at, layout::NAMED_BY, 0);
 }
 
+// A line a word, as each record is written.
 fn put_image(w: &mut [u64], at: usize, d: NewDpc)
     ensures { w.new ≡ put_image w.old at d }
 {
@@ -155,7 +156,7 @@ fn renew_link(w: &mut [u64], c: Chain, before: u64) -> u64
     next
 }
 
-// The queue walked from its first on, by the old numbers.
+// The queue walked from its first on, by the old numbers. Not by `members`, which lends the words: each link is renewed on the way.
 fn renew_links(w: &mut [u64], c: Chain)
     ensures { w.new ≡ links_renewed w.old c }
 {

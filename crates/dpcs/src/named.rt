@@ -14,6 +14,7 @@ fn is_bare(w: &[u64], at: usize) -> bool
         && words::get_in(w, at, layout::TIMER_DPC) == 0
 }
 
+// Proved by `any_from_walk`, as every walk of a table with a test.
 fn any_bare(w: &[u64]) -> bool
     ensures { result ≡ any_bare w.now }
 {

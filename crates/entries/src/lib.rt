@@ -7,18 +7,12 @@ ghost use Rattle.answers.specs.Errors.{answer_of, told_by};
 ghost use Rattle.events.specs.Events as events;
 ghost use Rattle.timers.specs.TimerAnswer as timer;
 ghost use Rattle.timers.specs.Reads as timers;
-ghost use Rattle.entries.specs.Entries.{is_event, event_entry, timer_entry};
+ghost use Rattle.entries.specs.Entries.{event_entry, timer_entry};
 
 use answers::error::SchedulerError;
 use events::Event;
 use images::Timer;
 use words::layout;
-
-fn is_event(w: &[u64], at: usize) -> bool
-    ensures { result ≡ is_event w.now at }
-{
-    words::get_in(w, at, layout::KIND) == objects::EVENT
-}
 
 #[tactic(auto, unfolding(crate::specs::Entries::event_entry))]
 pub fn event_entry(w: &[u64], entry: u64) -> Result<Option<Event>, SchedulerError>
@@ -28,7 +22,7 @@ pub fn event_entry(w: &[u64], entry: u64) -> Result<Option<Event>, SchedulerErro
         return Err(SchedulerError::Unknown);
     }
     let at = layout::entry_at(objects::objects_base(w), entry);
-    if is_event(w, at) {
+    if event_release::is_event(w, at) {
         return Ok(events::event_at(w, at));
     }
     Ok(None)

@@ -14,7 +14,7 @@ use words::layout;
 
 // Whether the record at place `at` is an event's.
 #[tactic(auto, unfolding(crate::specs::Release::is_event))]
-fn is_event(w: &[u64], at: usize) -> bool
+pub fn is_event(w: &[u64], at: usize) -> bool
     ensures { result ≡ is_event w.now at }
 {
     words::get_in(w, at, layout::KIND) == objects::EVENT
@@ -67,6 +67,7 @@ fn is_held(w: &[u64], at: usize, memory: Memory, span: u64) -> bool
     is_event(w, at) && is_key_held(w, words::get_in(w, at, layout::KEY), memory, span)
 }
 
+// Proved by `any_from_walk`, as every walk of a table with a test.
 fn any_held(w: &[u64], memory: Memory, span: u64) -> bool
     ensures { result ≡ any_held w.now memory.lo memory.hi span }
 {

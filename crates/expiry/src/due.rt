@@ -15,6 +15,7 @@ pub fn is_due(w: &[u64], at: usize, time: u64) -> bool
         && words::get_in(w, at, layout::DUE) <= time
 }
 
+// Proved by `any_from_walk`, as every walk of a table with a test.
 pub fn any_due(w: &[u64], time: u64) -> bool
     ensures { result ≡ any_due w.now time }
 {

@@ -1,20 +1,17 @@
 -- What an exported call gives that reads, or answers work or an image, from what the call answers.
-use mathlib.Core.Path.{◌≡◌, ap, sym, ◌∙◌}
+use mathlib.Core.Path.{◌≡◌, ap}
 use mathlib.Core.List.{List}
 use Prim.Native.Nat.{ℕ, ◌≤◌, ◌<◌}
 use lib.ListN.{length}
 use borrow.Author.Tests.{lt-ltb, le-ltb}
-use Rattle.std.specs.Prelude.{Option, Some, Result, Ok, Err, MatchResult, IsOkAnd}
-use Rattle.answers.specs.declared.error.SchedulerError.{SchedulerError}
-use Rattle.answers.specs.Errors.{number, told_by}
 use Rattle.answers.specs.declared.Answer.{Answer}
 use Rattle.dpc_work.specs.Work.{Started, start_outcome}
 use Rattle.dpc_work.specs.WorkAnswer.{WorkAnswer}
 use Rattle.calls.specs.Guard.{Kind, Code}
 use Rattle.calls.specs.Images.{Imaged, imaged}
-use Rattle.exports.specs.SchedulerAnswer.{Given, given, refusal_of, answer_in}
+use Rattle.exports.specs.SchedulerAnswer.{given, refusal_of, answer_in}
 use Rattle.exports.specs.RecordAnswer.{refusal_as, answer_as, work_refusal, work_answer_in}
-use Rattle.exports.specs.RecordCall.{room, read_by, started_by, GivenImage, given_image, imaged_by}
+use Rattle.exports.specs.RecordCall.{room, read_by, started_by, given_image, imaged_by}
 
 module _ (k : Kind) (w out : List ℕ) where
   pub read_short : (a : Code k) → length out < room k → given 27 w out ≡ read_by k w out a
@@ -44,13 +41,3 @@ module _ (bytes out : List ℕ) where
       → given_image (refusal_of a) after (answer_in out a) ≡ imaged_by bytes out i
   unfolding imaged_by
   image-by i a after h e = simp (le-ltb _ _ h) (ap (λ (x : Imaged). given_image (refusal_of x.answer) x.output (answer_in out x.answer)) e)
-
--- an answer of what must be there, told as one of what may be absent
-module _ {A B : Type 0} (tell : Option A → B) (refuse : ℕ → B) (known : Result A SchedulerError → B) where
-  pub told-known : ((x : A) → known (Ok x) ≡ tell (Some x)) → ((e : SchedulerError) → known (Err e) ≡ refuse (number e))
-      → {P : A → Option A → Type 0} → ((x : A) (y : Option A) → P x y → y ≡ Some x)
-      → (r : Result A SchedulerError) (m : Result (Option A) SchedulerError) → MatchResult r (λ x. IsOkAnd m (P x)) (λ e. m ≡ Err e)
-      → told_by tell refuse m ≡ known r
-  told-known there refused some (Ok x) (Ok y) t = ap tell (some x y t) ∙ sym (there x)
-  told-known there refused some (Ok x) (Err e) t = absurd t
-  told-known there refused some (Err e) m t = ap (told_by tell refuse) t ∙ sym (refused e)

@@ -1,10 +1,14 @@
 -- What an exported call gives that reads, or answers work or an image.
-use Rattle.std.specs.Prelude.{◌≡◌, cond, ℕ, List, length, ltb}
+use Rattle.std.specs.Prelude.{◌≡◌, cond, ℕ, List, length, ltb, Result}
 use Rattle.std.specs.Borrow.{MutBor}
-use Rattle.dpc_work.specs.Work.{Started}
+use Rattle.answers.specs.declared.error.SchedulerError.{SchedulerError}
+use Rattle.answers.specs.declared.Answer.TheVariants.{Count}
+use Rattle.answers.specs.Errors.{answer_of}
+use Rattle.images.specs.declared.DpcWork.{DpcWork}
+use Rattle.dpc_work.specs.Work.{Started, start_outcome, told}
 use Rattle.calls.specs.Guard.{Kind, Code}
 use Rattle.calls.specs.Guard as kind
-use Rattle.calls.specs.Images.{Imaged}
+use Rattle.calls.specs.Images.{Imaged, imaged}
 use Rattle.exports.specs.SchedulerAnswer.{Given, given, refusal_of, answer_in}
 use Rattle.exports.specs.RecordAnswer.{refusal_as, answer_as, work_refusal, work_answer_in}
 
@@ -32,6 +36,11 @@ unfoldable pub started_by : List ℕ → List ℕ → Started → Given
 started_by w out s =
     cond (ltb (length out) 24) (given 27 w out) (given (work_refusal s.answer) s.words (work_answer_in out s.answer))
 
+-- what a call that starts work does, from the words to its work and the words after it, by its runs
+abbrev pub Starts : (MutBor (List ℕ) → Result DpcWork SchedulerError → MutBor (List ℕ) → Type 0) → (List ℕ → Started) → Type 0
+Starts runs f = (w : MutBor (List ℕ)) (r : Result DpcWork SchedulerError) (after : MutBor (List ℕ)) → runs w r after
+    → start_outcome (told r) after.now ≡ f w.now
+
 -- ---- images: the bytes are an output of their own, and an output for the answer under four words is refused with 27
 
 pub record GivenImage : Type 0 where
@@ -45,3 +54,8 @@ given_image n bytes out = record { number = n; bytes = bytes; output = out }
 unfoldable pub imaged_by : List ℕ → List ℕ → Imaged → GivenImage
 imaged_by bytes out i =
     cond (ltb (length out) 4) (given_image 27 bytes out) (given_image (refusal_of i.answer) i.output (answer_in out i.answer))
+
+-- what a call that writes an image does, from the bytes to its answer and the bytes after it, by its runs
+abbrev pub Writes : (MutBor (List ℕ) → Result ℕ SchedulerError → MutBor (List ℕ) → Type 0) → (List ℕ → Imaged) → Type 0
+Writes runs f = (b : MutBor (List ℕ)) (r : Result ℕ SchedulerError) (after : MutBor (List ℕ)) → runs b r after
+    → imaged (answer_of Count r) after.now ≡ f b.now

@@ -7,7 +7,7 @@ ghost use Rattle.calls.specs.Guard as kind;
 ghost use Rattle.exports.specs.SchedulerAnswer.{given, changed_by};
 ghost use Rattle.exports.specs.RecordCall.{read_by, started_by};
 
-use super::record_answer::{counters_answer, dpc_answer, policy_answer, put_work_answer};
+use super::record_answer::{counters_answer, dpc_answer, policy_answer, start};
 use super::scheduler_answer::{answer, change};
 
 #[unsafe(no_mangle)]
@@ -62,11 +62,7 @@ pub extern "C" fn scheduler_remove_queue_dpc(
 pub extern "C" fn scheduler_start_dpc(words: &mut [u64], address: u64, out: &mut [u64]) -> u64
     ensures { given result words.new out.new ≡ started_by words.old out.old (called words.old (call.StartDpc address)) }
 {
-    if out.len() < 24 {
-        return 27;
-    }
-    let answer = scheduler::dpc_calls::start_dpc(words, address);
-    put_work_answer(out, answer)
+    start(words, out, |w| scheduler::dpc_calls::start_dpc(w, address))
 }
 
 #[unsafe(no_mangle)]

@@ -5,7 +5,7 @@ ghost use Rattle.model.specs.Call as call;
 ghost use Rattle.calls.specs.Called.{called};
 ghost use Rattle.exports.specs.RecordCall.{given_image, imaged_by};
 
-use super::scheduler_answer::put_answer;
+use super::scheduler_answer::image;
 
 #[unsafe(no_mangle)]
 pub extern "C" fn scheduler_timer_image(
@@ -16,11 +16,11 @@ pub extern "C" fn scheduler_timer_image(
 ) -> u64
     ensures { given_image result bytes.new out.new ≡ imaged_by bytes.old out.old (called words.now (call.Reads (call.TimerImage address (length bytes.old))) bytes.old) }
 {
-    if out.len() < 4 {
-        return 27;
-    }
-    let answer = scheduler_images::timer_image(words, address, bytes);
-    put_answer(out, answer.into())
+    image(
+        bytes,
+        out,
+        |b| scheduler_images::timer_image(words, address, b),
+    )
 }
 
 #[unsafe(no_mangle)]
@@ -32,9 +32,9 @@ pub extern "C" fn scheduler_dpc_image(
 ) -> u64
     ensures { given_image result bytes.new out.new ≡ imaged_by bytes.old out.old (called words.now (call.Reads (call.DpcImage address (length bytes.old))) bytes.old) }
 {
-    if out.len() < 4 {
-        return 27;
-    }
-    let answer = scheduler_images::dpc_image(words, address, bytes);
-    put_answer(out, answer.into())
+    image(
+        bytes,
+        out,
+        |b| scheduler_images::dpc_image(words, address, b),
+    )
 }

@@ -8,5 +8,6 @@ pub mod image_calls;
 pub mod record_answer;
 pub mod scheduler_answer;
 pub mod scheduler_calls;
+pub mod tags;
 pub mod thread_calls;
 pub mod timer_calls;

@@ -11,10 +11,11 @@ ghost use Rattle.dpc_reads.specs.CountersAnswer as counters;
 ghost use Rattle.dpc_reads.specs.DpcAnswer as dpc;
 ghost use Rattle.dpc_reads.specs.PolicyAnswer as policy;
 ghost use Rattle.dpc_work.specs.Work as work;
+ghost use Rattle.dpc_work.specs.Work.{Started};
 ghost use Rattle.timers.specs.Reads as timers;
 ghost use Rattle.timers.specs.TimerAnswer as timer;
 ghost use Rattle.exports.specs.SchedulerAnswer.{given};
-ghost use Rattle.exports.specs.RecordCall.{room, read_by, Puts};
+ghost use Rattle.exports.specs.RecordCall.{room, read_by, started_by, Puts, Starts};
 ghost use Rattle.exports.specs.RecordAnswer.{
   located_in,
   state_in,
@@ -37,6 +38,7 @@ ghost use Rattle.exports.specs.RecordAnswer.{
 };
 
 use super::scheduler_answer::{flag, tag};
+use super::tags;
 use answers::error::SchedulerError;
 use arch::Architecture;
 use dispatcher::read::{Place, ThreadView};
@@ -83,7 +85,7 @@ fn put_timer(out: &mut [u64], t: Timer) -> u64
 {
     let a = t.architecture;
     let b = t.backing;
-    put_located(out, 14, t.address, a, b);
+    put_located(out, tags::TIMER, t.address, a, b);
     put_state(out, t);
     put_setting(out, t);
     0
@@ -152,7 +154,7 @@ fn put_dpc(out: &mut [u64], d: Dpc) -> u64
     let a = d.architecture;
     let b = d.backing;
     let p = d.phase;
-    put_located(out, 15, d.address, a, b);
+    put_located(out, tags::DPC, d.address, a, b);
     words::put(out, 7, d.routine);
     words::put(out, 8, d.context);
     put_phase(out, p);
@@ -164,7 +166,7 @@ fn put_dpc(out: &mut [u64], d: Dpc) -> u64
 fn put_started(out: &mut [u64], w: DpcWork) -> u64
     ensures { (result ≡ 0) × (out.new ≡ started_in out.old w) }
 {
-    words::put(out, 0, 16);
+    words::put(out, 0, tags::WORK);
     put_work(out, 1, w);
     0
 }
@@ -172,7 +174,7 @@ fn put_started(out: &mut [u64], w: DpcWork) -> u64
 fn put_counters(out: &mut [u64], n: DpcCounters) -> u64
     ensures { (result ≡ 0) × (out.new ≡ counters_in out.old n) }
 {
-    words::put(out, 0, 19);
+    words::put(out, 0, tags::COUNTERS);
     words::put(out, 1, n.accepted);
     words::put(out, 2, n.duplicates);
     words::put(out, 3, n.removed);
@@ -205,7 +207,7 @@ fn put_wait(out: &mut [u64], t: ThreadView)
 fn put_thread(out: &mut [u64], t: ThreadView) -> u64
     ensures { (result ≡ 0) × (out.new ≡ thread_in out.old t) }
 {
-    words::put(out, 0, 20);
+    words::put(out, 0, tags::THREAD_RECORD);
     words::put(out, 1, t.id);
     words::put(out, 2, t.priority);
     words::put(out, 3, t.state);
@@ -224,7 +226,7 @@ pub fn put_timer_answer(out: &mut [u64], called: Result<Option<Timer>, Scheduler
 {
     match called {
         Ok(Some(t)) => put_timer(out, t),
-        Ok(None) => tag(out, 2),
+        Ok(None) => tag(out, tags::NONE),
         Err(error) => error.number(),
     }
 }
@@ -235,7 +237,7 @@ pub fn put_dpc_answer(out: &mut [u64], called: Result<Option<Dpc>, SchedulerErro
 {
     match called {
         Ok(Some(d)) => put_dpc(out, d),
-        Ok(None) => tag(out, 2),
+        Ok(None) => tag(out, tags::NONE),
         Err(error) => error.number(),
     }
 }
@@ -254,8 +256,8 @@ pub fn put_policy_answer(out: &mut [u64], called: Result<DpcPolicy, SchedulerErr
     ensures { (result ≡ refusal_as kind.policies (told_by dpcs.selected policy.Refused called)) × (out.new ≡ answer_as kind.policies out.old (told_by dpcs.selected policy.Refused called)) }
 {
     match called {
-        Ok(DpcPolicy::Unselected) => tag(out, 17),
-        Ok(DpcPolicy::Cpu0Dispatch { first, second }) => put_pair(out, 18, first, second),
+        Ok(DpcPolicy::Unselected) => tag(out, tags::NO_POLICY),
+        Ok(DpcPolicy::Cpu0Dispatch { first, second }) => put_pair(out, tags::POLICY, first, second),
         Err(error) => error.number(),
     }
 }
@@ -276,7 +278,7 @@ pub fn put_thread_answer(out: &mut [u64], called: Result<Option<ThreadView>, Sch
 {
     match called {
         Ok(Some(t)) => put_thread(out, t),
-        Ok(None) => tag(out, 2),
+        Ok(None) => tag(out, tags::NONE),
         Err(error) => error.number(),
     }
 }
@@ -286,8 +288,8 @@ pub fn put_place_answer(out: &mut [u64], called: Result<Option<Place>, Scheduler
     ensures { (result ≡ refusal_as kind.places (told_by read.told_place place.Refused called)) × (out.new ≡ answer_as kind.places out.old (told_by read.told_place place.Refused called)) }
 {
     match called {
-        Ok(Some(p)) => put_pair(out, 21, p.kind, p.key),
-        Ok(None) => tag(out, 2),
+        Ok(Some(p)) => put_pair(out, tags::OBJECT, p.kind, p.key),
+        Ok(None) => tag(out, tags::NONE),
         Err(error) => error.number(),
     }
 }
@@ -300,7 +302,7 @@ fn in_room<F: FnOnce(&mut [u64]) -> u64>(out: &mut [u64], put: F) -> u64
     ensures { (k : Kind) → room k ≡ 24 → (a : Code k) → Puts (F.post put) k a → (w : List ℕ) → given result w out.new ≡ read_by k w out.old a }
 {
     if out.len() < 24 {
-        return 27;
+        return SchedulerError::OutOfForm.number();
     }
     put(out)
 }
@@ -339,4 +341,20 @@ pub fn place_answer(out: &mut [u64], called: Result<Option<Place>, SchedulerErro
     ensures { (w : List ℕ) → given result w out.new ≡ read_by kind.places w out.old (told_by read.told_place place.Refused called) }
 {
     in_room(out, |out| put_place_answer(out, called))
+}
+
+// A call that starts work, and the work written to `out`; without room for it 27, and no call.
+pub fn start<F: FnOnce(&mut [u64]) -> Result<DpcWork, SchedulerError>>(
+    words: &mut [u64],
+    out: &mut [u64],
+    call: F,
+) -> u64
+    requires { F.IsAlwaysCallable call }
+    ensures { (f : List ℕ → Started) → Starts (F.post call) f → given result words.new out.new ≡ started_by words.old out.old (f words.old) }
+{
+    if out.len() < 24 {
+        return SchedulerError::OutOfForm.number();
+    }
+    let answer = call(words);
+    put_work_answer(out, answer)
 }

@@ -3,11 +3,14 @@ ghost use Rattle.std.specs.Prelude.{◌≡◌, List, ℕ};
 ghost use Rattle.answers.specs.declared.Answer.{Answer};
 ghost use Rattle.answers.specs.Outcome.{Outcome};
 ghost use Rattle.calls.specs.Guard as kind;
-ghost use Rattle.exports.specs.RecordCall.{read_by};
+ghost use Rattle.calls.specs.Images.{Imaged};
+ghost use Rattle.exports.specs.RecordCall.{read_by, given_image, imaged_by, Writes};
 ghost use Rattle.exports.specs.SchedulerAnswer.{refusal_of, answer_in, tagged, valued, evented, given, changed_by, Does};
 ghost use Rattle.answers.specs.Outcome.{bit};
 
+use super::tags;
 use answers::Answer;
+use answers::error::SchedulerError;
 
 // Answers 0, which no refusal is.
 pub fn tag(out: &mut [u64], t: u64) -> u64
@@ -35,7 +38,7 @@ pub fn flag(b: bool) -> u64
 fn event(out: &mut [u64], key: u64, manual: bool, signaled: bool) -> u64
     ensures { (result ≡ 0) × (out.new ≡ evented out.old key manual signaled) }
 {
-    words::put(out, 0, 13);
+    words::put(out, 0, tags::EVENT);
     words::put(out, 1, key);
     words::put(out, 2, flag(manual));
     words::put(out, 3, flag(signaled));
@@ -48,18 +51,18 @@ pub fn put_answer(out: &mut [u64], a: Answer) -> u64
 {
     match a {
         Answer::Refused(n) => n,
-        Answer::Done => tag(out, 1),
-        Answer::None => tag(out, 2),
-        Answer::Thread(n) => value(out, 3, n),
-        Answer::Flag(b) => value(out, 4, flag(b)),
-        Answer::Count(n) => value(out, 5, n),
-        Answer::Satisfied(i) => value(out, 6, i),
-        Answer::Timeout => tag(out, 7),
-        Answer::Blocked => tag(out, 8),
-        Answer::Run(n) => value(out, 9, n),
-        Answer::AdvanceTo(t) => value(out, 10, t),
-        Answer::Deadlocked(n) => value(out, 11, n),
-        Answer::Finished => tag(out, 12),
+        Answer::Done => tag(out, tags::DONE),
+        Answer::None => tag(out, tags::NONE),
+        Answer::Thread(n) => value(out, tags::THREAD, n),
+        Answer::Flag(b) => value(out, tags::FLAG, flag(b)),
+        Answer::Count(n) => value(out, tags::COUNT, n),
+        Answer::Satisfied(i) => value(out, tags::SATISFIED, i),
+        Answer::Timeout => tag(out, tags::TIMEOUT),
+        Answer::Blocked => tag(out, tags::BLOCKED),
+        Answer::Run(n) => value(out, tags::RUN, n),
+        Answer::AdvanceTo(t) => value(out, tags::ADVANCE_TO, t),
+        Answer::Deadlocked(n) => value(out, tags::DEADLOCKED, n),
+        Answer::Finished => tag(out, tags::FINISHED),
         Answer::Event {
             key,
             manual,
@@ -78,9 +81,26 @@ pub fn change<T: Into<Answer>, F: FnOnce(&mut [u64]) -> T>(
     ensures { (f : List ℕ → Outcome) → Does (F.post call) T.converts f → given result words.new out.new ≡ changed_by words.old out.old (f words.old) }
 {
     if out.len() < 4 {
-        return 27;
+        return SchedulerError::OutOfForm.number();
     }
     let answer = call(words);
+    put_answer(out, answer.into())
+}
+
+// A call that writes an image to `bytes`, and its answer written to `out`; without room for the answer 27, and no call. Apart from `change`:
+// an image leaves the words, and what is given has a definition of its own.
+pub fn image<F: FnOnce(&mut [u8]) -> Result<u64, SchedulerError>>(
+    bytes: &mut [u8],
+    out: &mut [u64],
+    call: F,
+) -> u64
+    requires { F.IsAlwaysCallable call }
+    ensures { (f : List ℕ → Imaged) → Writes (F.post call) f → given_image result bytes.new out.new ≡ imaged_by bytes.old out.old (f bytes.old) }
+{
+    if out.len() < 4 {
+        return SchedulerError::OutOfForm.number();
+    }
+    let answer = call(bytes);
     put_answer(out, answer.into())
 }
 
@@ -90,7 +110,7 @@ pub fn answer<T: Into<Answer>>(out: &mut [u64], read: T) -> u64
 {
     let told = read.into();
     if out.len() < 4 {
-        return 27;
+        return SchedulerError::OutOfForm.number();
     }
     put_answer(out, told)
 }

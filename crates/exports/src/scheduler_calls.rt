@@ -10,6 +10,7 @@ ghost use Rattle.exports.specs.SchedulerAnswer.{truth, given, changed_by, dispat
 ghost use Rattle.exports.specs.RecordCall.{read_by};
 
 use super::scheduler_answer::{answer, change, put_answer};
+use answers::error::SchedulerError;
 
 #[unsafe(no_mangle)]
 pub extern "C" fn scheduler_create_thread(words: &mut [u64], priority: u64, out: &mut [u64]) -> u64
@@ -254,12 +255,13 @@ pub extern "C" fn scheduler_wait(
     )
 }
 
+// Not by `change`: a dispatch has a second output, and so a definition of its own. `raw_exports` has the only other like it.
 #[unsafe(no_mangle)]
 pub extern "C" fn scheduler_dispatch(words: &mut [u64], waiting: &mut [u64], out: &mut [u64]) -> u64
     ensures { given_all result words.new waiting.new out.new ≡ dispatched_by words.old waiting.old out.old }
 {
     if out.len() < 4 {
-        return 27;
+        return SchedulerError::OutOfForm.number();
     }
     let answer = scheduler::changes::dispatch(words, waiting);
     put_answer(out, answer.into())

@@ -40,7 +40,7 @@ pub fn sequences_rise(w: &[u64]) -> bool
     false
 }
 
-// Whether a thread has the priority; 0 stands for any.
+// Whether a thread has the priority; 0 stands for any, since priorities are from 1.
 #[tactic(auto, unfolding(crate::specs::Chain::has_priority))]
 fn has_priority(w: &[u64], id: u64, p: u64) -> bool
     ensures { result ≡ has_priority w.now id p }
@@ -56,7 +56,7 @@ fn member_passes(w: &[u64], id: u64, state: u64, p: u64) -> bool
     threads::is_known(w, id) && form_threads::has_state(w, id, state) && has_priority(w, id, p)
 }
 
-// How many stand in a chain; None where it is out of form. Not by `members`, for the same reason.
+// How many stand in a chain of threads of this state and priority, 0 for any; None where it is out of form. Not by `members`, for the same reason.
 fn chain_size(w: &[u64], c: Chain, state: u64, p: u64) -> Option<u64>
     ensures { result ≡ counted (chain_size w.now c state p) }
 {

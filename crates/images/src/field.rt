@@ -12,7 +12,7 @@ pub fn put_bytes(out: &mut [u8], at: usize, bytes: &[u8])
     }
 }
 
-// The lowest `count` bytes of `n`, from `at` on, the lowest first.
+// The lowest `count` bytes of `n`, from `at` on, the lowest first. Not `to_le_bytes`: `count` may pass 8, and the bytes past it are 0.
 pub fn put_number(out: &mut [u8], at: usize, count: usize, n: u64)
     ensures { out.new ≡ placed at (little count n) out.old }
 {

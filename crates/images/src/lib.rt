@@ -134,13 +134,14 @@ pub struct Dpc {
     pub phase: DpcPhase,
 }
 
-// The row of an architecture, and the number that stands for it in the words. No From: a word may be any number.
+// The number that stands for an architecture in the words.
 pub fn architecture_number(a: Architecture) -> u64
     ensures { result ≡ architecture_number a }
 {
     a as u64
 }
 
+// No From: a word may be any number, and the definition speaks of all of them.
 pub fn architecture_of(n: u64) -> Architecture
     ensures { result ≡ architecture_of n }
 {
@@ -319,7 +320,7 @@ fn put_timer_links(out: &mut [u8], t: Timer)
 {
     let a = t.architecture;
     let width = a.width() as usize;
-    let list = std::num::wrapping_add_u64(t.address, 8);
+    let list = t.address.wrapping_add(8);
     field::put_number(out, 8, width, list);
     field::put_number(out, 8 + width, width, list);
 }

@@ -32,6 +32,7 @@ fn numbers_of(line: &[u8], numbers: &mut [u64]) -> usize
     ensures { result ≤ length numbers.new }
 {
     let mut rest = Words::of(line).rest();
+    // By place, not by word: the place is also the count that is told.
     for i in 0..numbers.len() {
         if rest.is_end() {
             return i;
@@ -45,6 +46,7 @@ fn numbers_of(line: &[u8], numbers: &mut [u64]) -> usize
 // The keys of a new list's mutexes; of what was shown before nothing stays.
 fn keep_keys(numbers: &[u64], kept: &mut [u64]) {
     kept.fill(0);
+    // By place: what the numbers do not have is 0, and two lists have the place.
     for i in 0..show::KEYS {
         words::put_in(kept, show::KEYS_AT, i, words::get(numbers, i));
     }
@@ -77,7 +79,7 @@ fn perform(
 fn next(p: Place, times: u64, keys: usize) -> Place {
     Place {
         used: 0,
-        number: std::num::wrapping_add_u64(p.number, 1),
+        number: p.number.wrapping_add(1),
         times,
         keys,
     }

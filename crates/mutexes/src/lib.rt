@@ -16,14 +16,14 @@ use waits::{lists, object};
 use words::layout;
 
 #[tactic(auto, unfolding(crate::specs::Mutexes::new_mutex))]
-fn new_mutex(owner: u64) -> objects::Object
-    ensures { result ≡ new_mutex owner }
+fn new_mutex(owner: Option<u64>) -> objects::Object
+    ensures { result ≡ new_mutex (unwrap_or owner 0) }
 {
     objects::Object {
         kind: objects::MUTEX,
         manual: 0,
         signaled: 0,
-        owner,
+        owner: owner.unwrap_or(0),
     }
 }
 
@@ -65,11 +65,11 @@ pub fn initialize_mutex(w: &mut [u64], key: u64) -> Result<(), SchedulerError>
     ensures { outcome (done result) w.new ≡ initialized w.old key }
 {
     check_mutex(w, key)?;
-    objects::enter(w, key, new_mutex(0));
+    objects::enter(w, key, new_mutex(None));
     Ok(())
 }
 
-// Whether there is such a thread and it has not exited.
+// Whether there is such a thread and it has not exited. Not the one of `form_threads`: the two definitions differ, this one asks by `exited`.
 #[tactic(auto, unfolding(crate::specs::Mutexes::live))]
 fn is_live(w: &[u64], id: u64) -> bool
     ensures { result ≡ live w.now id }
@@ -77,14 +77,14 @@ fn is_live(w: &[u64], id: u64) -> bool
     threads::is_known(w, id) && !object::is_exited(w, id)
 }
 
-// A known mutex may be adopted with the owner it has, 0 for none; a new one as it may be initialized.
+// A known mutex may be adopted with the owner it has; a new one as it may be initialized.
 #[tactic(auto, unfolding(crate::specs::Mutexes::known_refusal, crate::specs::Mutexes::owner_of))]
-fn check_known(w: &[u64], key: u64, owner: u64) -> Result<(), SchedulerError>
-    ensures { refusal result ≡ known_refusal w.now key owner }
+fn check_known(w: &[u64], key: u64, owner: Option<u64>) -> Result<(), SchedulerError>
+    ensures { refusal result ≡ known_refusal w.now key (unwrap_or owner 0) }
 {
     match objects::place_of(w, objects::MUTEX, key) {
         None => check_mutex(w, key),
-        Some(at) if words::get_in(w, at, layout::OWNER) == owner => Ok(()),
+        Some(at) if words::get_in(w, at, layout::OWNER) == owner.unwrap_or(0) => Ok(()),
         Some(_) => Err(SchedulerError::NotOwner),
     }
 }
@@ -95,7 +95,7 @@ fn check_adopt(w: &[u64], key: u64, owner: Option<u64>) -> Result<(), SchedulerE
 {
     match owner {
         Some(id) if !is_live(w, id) => Err(SchedulerError::NotOwner),
-        _ => check_known(w, key, owner.unwrap_or(0)),
+        _ => check_known(w, key, owner),
     }
 }
 
@@ -106,7 +106,7 @@ pub fn adopt_mutex(w: &mut [u64], key: u64, owner: Option<u64>) -> Result<(), Sc
 {
     check_adopt(w, key, owner)?;
     if objects::place_of(w, objects::MUTEX, key).is_none() {
-        objects::enter(w, key, new_mutex(owner.unwrap_or(0)));
+        objects::enter(w, key, new_mutex(owner));
     }
     Ok(())
 }

@@ -16,7 +16,7 @@ pub const TIMER: u64 = 2;
 
 pub const THREAD: u64 = 3;
 
-// What a mutex or an event has beside its key. `owner` is 0 for none.
+// What a mutex or an event has beside its key, as the words of its record hold it: flags are 0 or 1, and `owner` is 0 for none.
 #[derive(Clone, Copy, Debug, PartialEq, Eq)]
 pub struct Object {
     pub kind: u64,

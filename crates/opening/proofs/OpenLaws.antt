@@ -1,22 +1,31 @@
--- The laws of the clearing loop, as the code counts, and what good limits are.
-use Prim.Native.Nat.{ℕ, ◌+◌, ◌≤◌}
-use native.Mathlib.Numerals.{add-one}
-use mathlib.Core.List.{List}
+-- The laws of the clearing, and what good limits are.
+use Rattle.std.proofs.Common.{ℕ, zero, suc, ◌+◌, ◌<◌, ◌≤◌, List, [], ◌∷◌, ◌++◌, length, drop, set, replicate, ◌≡◌, refl, ap, ◌∙◌, arith}
 use mathlib.Core.Bool.{Bool, cond, true, false, true≢false}
-use mathlib.Core.Path.{◌≡◌, refl}
-use lib.ListN.{set}
 use lib.Dec.{ltb}
 use borrow.Author.Tests.{ltb-false}
 use Rattle.words.specs.Layout as at
 use Rattle.opening.specs.Open.{bad_limits, cleared}
 
-pub cleared-none : (w : List ℕ) → w ≡ cleared 0 w
+cleared-empty : (k : ℕ) → cleared k [] ≡ []
 unfolding cleared
-cleared-none w = refl
+cleared-empty zero = refl
+cleared-empty (suc k) = ap (λ (l : List ℕ). set l k 0) (cleared-empty k)
 
-pub cleared-next : (k : ℕ) (w : List ℕ) → cleared (k + 1) w ≡ set (cleared k w) k 0
+cleared-cons : (k x : ℕ) (w : List ℕ) → cleared (suc k) (x ∷ w) ≡ 0 ∷ cleared k w
 unfolding cleared
-cleared-next k w = rw add-one
+cleared-cons zero x w = refl
+cleared-cons (suc k) x w = ap (λ (l : List ℕ). set l (suc k) 0) (cleared-cons k x w)
+
+-- the first `k` words 0, where `n` of them are there
+pub cleared-start : (n k : ℕ) (w : List ℕ) → n ≤ k → n ≤ length w → (n < k → length w ≤ n) → cleared k w ≡ replicate {A = ℕ} n 0 ++ drop n w
+unfolding cleared
+cleared-start zero zero w a b h = refl
+cleared-start zero (suc k) [] a b h = cleared-empty (suc k)
+cleared-start zero (suc k) (x ∷ w) a b h = absurd (let j = h (omega arith) in omega arith)
+cleared-start (suc n) zero w a b h = absurd (omega arith)
+cleared-start (suc n) (suc k) [] a b h = absurd (omega arith)
+cleared-start (suc n) (suc k) (x ∷ w) a b h =
+    cleared-cons k x w ∙ ap (λ (l : List ℕ). 0 ∷ l) (cleared-start n k w (omega arith) (omega arith) (λ l. let j = h (omega (arith, l)) in omega arith))
 
 -- good limits are small
 pub record Limits (t o d : ℕ) : Type 0 where

@@ -62,9 +62,8 @@ fn check_open(w: &[u64], priority: u64, limits: Limits) -> Result<(), SchedulerE
 fn clear(w: &mut [u64])
     ensures { w.new ≡ cleared at.unused w.old }
 {
-    for i in 0..layout::UNUSED {
-        words::put(w, i, 0);
-    }
+    let n = w.len().min(layout::UNUSED);
+    w[..n].fill(0);
 }
 
 #[tactic(auto, unfolding(crate::specs::Open::limited))]

@@ -10,6 +10,7 @@ ghost use Rattle.dispatcher.specs.Dispatched.{dispatched};
 ghost use Rattle.exports.specs.SchedulerAnswer.{truth, given, changed_by, given_all};
 ghost use Rattle.raw_exports.specs.Dispatch.{dispatched_by};
 
+use answers::error::SchedulerError;
 use exports::scheduler_answer::{change, put_answer};
 
 #[unsafe(no_mangle)]
@@ -162,7 +163,7 @@ pub extern "C" fn raw_dispatch(words: &mut [u64], waiting: &mut [u64], out: &mut
     ensures { given_all result words.new waiting.new out.new ≡ dispatched_by words.old waiting.old out.old (dispatched words.old waiting.old) }
 {
     if out.len() < 4 {
-        return 27;
+        return SchedulerError::OutOfForm.number();
     }
     let answer = dispatcher::dispatch::dispatch(words, waiting);
     put_answer(out, answer.into())

@@ -4,7 +4,7 @@ ghost use Rattle.dpc_work.specs.Work as calls;
 ghost use Rattle.exports.specs.SchedulerAnswer.{given, changed_by};
 ghost use Rattle.exports.specs.RecordCall.{started_by};
 
-use exports::record_answer::put_work_answer;
+use exports::record_answer::start;
 use exports::scheduler_answer::change;
 
 #[unsafe(no_mangle)]
@@ -51,11 +51,7 @@ pub extern "C" fn raw_remove_queue_dpc(words: &mut [u64], address: u64, out: &mu
 pub extern "C" fn raw_start_dpc(words: &mut [u64], address: u64, out: &mut [u64]) -> u64
     ensures { given result words.new out.new ≡ started_by words.old out.old (calls.work_started words.old address) }
 {
-    if out.len() < 24 {
-        return 27;
-    }
-    let answer = dpc_work::start_dpc(words, address);
-    put_work_answer(out, answer)
+    start(words, out, |w| dpc_work::start_dpc(w, address))
 }
 
 #[unsafe(no_mangle)]

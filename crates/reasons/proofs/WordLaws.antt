@@ -1,15 +1,14 @@
--- The digits of a word, as the code scans them.
-use mathlib.Core.Path.{◌≡◌, refl, sym, ◌∙◌}
-use mathlib.Core.Bool.{true, false, false≢true}
+-- The digits of a word, as the code tests them.
+use mathlib.Core.Path.{◌≡◌, refl, sym, ap, ◌∙◌}
+use mathlib.Core.Bool.{true, false, false≢true, ◌&&◌}
 use mathlib.Core.List.{List, [], ◌∷◌}
-use Prim.Native.Nat.{ℕ, suc, ◌+◌, ◌≤◌, ◌<◌}
-use native.Mathlib.Numerals.{add-one}
+use Prim.Native.Nat.{ℕ, suc}
 use native.Mathlib.Omega.{arith}
-use borrow.Author.Tests.{le-leb, lt-leb, eq-eqb, ne_eqb}
+use borrow.Author.Tests.{eq-eqb, ne_eqb}
 use lib.Dec.{eqb}
-use lib.ListN.{length, get_or, drop, drop_of_length-le}
-use lib.Seq.{drop-cons}
-use Rattle.script_lex.specs.Numbers.{all_digits}
+use lib.ListN.{length, get_or, drop}
+use Rattle.std.specs.List.{list_all}
+use Rattle.script_lex.specs.Numbers.{is_digit, all_digits}
 use Rattle.reasons.specs.Reasons.{digits, is_numeral}
 
 pub not-empty : (w : List ℕ) (b : ℕ) → eqb (length (b ∷ w)) 0 ≡ true → ⊥
@@ -38,19 +37,7 @@ pub numeral-plus : (w : List ℕ) → (get_or w 0 0 ≡ 45 → ⊥) → is_numer
 unfolding is_numeral
 numeral-plus w n = simp (ne_eqb _ _ n)
 
-module _ (i : ℕ) (w : List ℕ) where
-  pub all_end : length w ≤ i → all_digits (drop i w) ≡ true
-  unfolding all_digits
-  all_end h = simp (drop_of_length-le w h)
-
-  pub all-low : i < length w → get_or w i 0 < 48 → all_digits (drop i w) ≡ false
-  unfolding all_digits
-  all-low h l = simp (drop-cons w i 0 h, lt-leb _ _ l)
-
-  pub all-high : i < length w → 48 ≤ get_or w i 0 → 57 < get_or w i 0 → all_digits (drop i w) ≡ false
-  unfolding all_digits
-  all-high h l g = simp (drop-cons w i 0 h, le-leb _ _ l, lt-leb _ _ g)
-
-  pub all_more : i < length w → 48 ≤ get_or w i 0 → get_or w i 0 ≤ 57 → all_digits (drop i w) ≡ all_digits (drop (i + 1) w)
-  unfolding all_digits
-  all_more h l g = simp (drop-cons w i 0 h, add-one i, le-leb _ _ l, le-leb _ _ g)
+pub all-digits : (w : List ℕ) → list_all is_digit w ≡ all_digits w
+unfolding all_digits
+all-digits [] = refl
+all-digits (b ∷ w) = ap (λ r. is_digit b && r) (all-digits w)

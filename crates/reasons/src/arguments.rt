@@ -1,4 +1,5 @@
 // The words behind a line's name, held to their kinds: the words left, the number of the first of them, and the letter of its kind.
+// The letter is no enum: it is the byte of the form's text, which the contract names.
 ghost use Rattle.std.specs.Prelude.{◌≡◌, ◌+◌, ◌≤◌, length, get_or};
 ghost use Rattle.script_lex.specs.Words.{words_at, first};
 ghost use Rattle.script_lex.specs.Left.{left};
@@ -11,18 +12,7 @@ use script_lex::lex::Words;
 fn are_digits(word: &[u8]) -> bool
     ensures { result ≡ digits word.now }
 {
-    if word.is_empty() {
-        return false;
-    }
-    for &b in word {
-        if b < b'0' {
-            return false;
-        }
-        if b'9' < b {
-            return false;
-        }
-    }
-    true
+    !word.is_empty() && word.iter().all(|b| b.is_ascii_digit())
 }
 
 // Whether the first word is a number, however large, with a minus or without.
@@ -158,7 +148,8 @@ fn end_reason(place: usize, kind: u8) -> Option<Reason>
     }
 }
 
-// The words, the first of which has the number `number`. Not a `for` over them, since each is read by what is left.
+// The words, the first of which has the number `number`. Not a `for` over them: its readers take a `Words`, whose first word is asked by
+// `number`, `signed` and `is`, and a word alone has no such methods.
 pub fn reason_from(words: Words, number: usize, form: &[u8]) -> Option<Reason>
     requires { (length words.line.now ≤ 4096) × (number ≤ 2) }
     ensures { result ≡ reason_from form.now 0 number (left words.entry) }

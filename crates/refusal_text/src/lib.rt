@@ -6,7 +6,7 @@ ghost use Rattle.refusal_text.specs.Sentences.{sentence};
 
 use script_print::Text;
 
-// The sentence of a refusal's number.
+// The sentence of a refusal's number. A number, since 28 and the clock's have no name of one type.
 #[tactic(auto, unfolding(crate::specs::Sentences::sentence, crate::specs::Sentences::sentence8, crate::specs::Sentences::sentence15, crate::specs::Sentences::sentence22))]
 pub fn put_sentence(text: &mut Text, number: u64)
     ensures { Prints text.old text.new (sentence number) }

@@ -5,6 +5,7 @@ use script_lex::lex::Words;
 // What is returned where the line names no call, or a list is not there.
 const UNREAD: u64 = 28;
 
+// `clock_replay` has it too: of the crates that both use, `exports` and `words`, neither is for programs.
 fn low(n: u64) -> u32 {
     (n & 0xffff_ffff) as u32
 }
@@ -13,7 +14,7 @@ fn lowest(n: u64) -> u8 {
     (n & 0xff) as u8
 }
 
-// The number less than 0 by `n`, or `n`.
+// The number less than 0 by `n`, or `n`: the list has 1 or 0 for the sign, not a word.
 fn signed(is_less: u64, n: u64) -> i64 {
     if 9_223_372_036_854_775_807 < n {
         return i64::MIN;

@@ -1,6 +1,6 @@
 // All that the reads show of the state, as far as it has changed.
 use super::show;
-use exports::{dpc_calls, scheduler_calls, thread_calls, timer_calls};
+use exports::{dpc_calls, scheduler_calls, tags, thread_calls, timer_calls};
 use std::io;
 
 // What is read by position, or by a mutex's key.
@@ -70,7 +70,7 @@ fn object(rt: &impl Print, w: &[u64], id: u64, position: u64) -> io::Result<bool
     let mut out = [0u64; 24];
     let number = thread_calls::scheduler_waited_object(w, id, position, &mut out);
     show::refuse(&mut out, number);
-    if words::get(&out, 0) == show::NONE {
+    if words::get(&out, 0) == tags::NONE {
         return Ok(false);
     }
     rt.write_all(b", ")?;

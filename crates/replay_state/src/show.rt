@@ -1,4 +1,5 @@
 // The text of an answer, and what of it has been shown before.
+use exports::tags;
 use script_lex::lex::Words;
 use std::io;
 
@@ -12,37 +13,33 @@ pub const KEYS: usize = 16;
 
 const REFUSED: usize = 23;
 
-pub const NONE: u64 = 2;
-
-const DEADLOCKED: u64 = 11;
-
 pub fn refuse(out: &mut [u64], number: u64) {
     words::put(out, REFUSED, number);
 }
 
 fn tag(t: u64) -> &'static str {
     match t {
-        1 => "done",
-        2 => "none",
-        3 => "thread",
-        4 => "flag",
-        5 => "count",
-        6 => "satisfied",
-        7 => "timeout",
-        8 => "blocked",
-        9 => "run",
-        10 => "advance",
-        11 => "deadlocked",
-        12 => "finished",
-        13 => "event",
-        14 => "timer",
-        15 => "dpc",
-        16 => "work",
-        17 => "no policy",
-        18 => "policy",
-        19 => "counters",
-        20 => "thread record",
-        21 => "object",
+        tags::DONE => "done",
+        tags::NONE => "none",
+        tags::THREAD => "thread",
+        tags::FLAG => "flag",
+        tags::COUNT => "count",
+        tags::SATISFIED => "satisfied",
+        tags::TIMEOUT => "timeout",
+        tags::BLOCKED => "blocked",
+        tags::RUN => "run",
+        tags::ADVANCE_TO => "advance",
+        tags::DEADLOCKED => "deadlocked",
+        tags::FINISHED => "finished",
+        tags::EVENT => "event",
+        tags::TIMER => "timer",
+        tags::DPC => "dpc",
+        tags::WORK => "work",
+        tags::NO_POLICY => "no policy",
+        tags::POLICY => "policy",
+        tags::COUNTERS => "counters",
+        tags::THREAD_RECORD => "thread record",
+        tags::OBJECT => "object",
         _ => "?",
     }
 }
@@ -96,7 +93,7 @@ pub fn beside(
         return Ok(());
     }
     let n = words::get(out, 1);
-    if words::get(out, 0) == DEADLOCKED {
+    if words::get(out, 0) == tags::DEADLOCKED {
         for thread in waiting.iter().take(n as usize) {
             value(rt, *thread)?;
         }
@@ -116,13 +113,15 @@ fn words_at(place: usize) -> usize {
 
 // Whether the answer is none, and so was the last one shown at this place, or none has been.
 pub fn is_past(kept: &[u64], place: usize, out: &[u64]) -> bool {
-    words::get(out, 0) == NONE && matches!(words::get_in(kept, words_at(place), 0), 0 | NONE)
+    words::get(out, 0) == tags::NONE
+        && matches!(words::get_in(kept, words_at(place), 0), 0 | tags::NONE)
 }
 
 // Whether the answer differs from the last one shown at this place; it is the last one now.
 pub fn is_news(kept: &mut [u64], place: usize, out: &[u64]) -> bool {
     let at = words_at(place);
     let mut news = false;
+    // By place: two lists are read, and one is written.
     for i in 0..ANSWER {
         let word = words::get(out, i);
         if words::get_in(kept, at, i) != word {

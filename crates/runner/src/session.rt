@@ -15,7 +15,7 @@ pub const OBJECTS: u64 = 64;
 
 pub const DPCS: u64 = 64;
 
-// Whether an `open` has been accepted, and the clock, once a `clock new` has been.
+// Whether an `open` has been accepted, and the clock, once a `clock new` has been. A flag: the words that are open are lent anew with each line.
 #[derive(Clone, Copy)]
 pub struct Session {
     pub opened: bool,

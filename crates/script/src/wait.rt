@@ -7,7 +7,7 @@ ghost use Rattle.script.specs.Wait.{kind_of, item_of, paired, pairs_of, taken, w
 use script_lex::command::Command;
 use script_lex::lex::Words;
 
-// The kind of an object that the first word names.
+// The kind of an object that the first word names. It is no enum: the number is what the list takes, as C lends it.
 #[tactic(auto, unfolding(crate::specs::Wait::kind_of))]
 fn kind(words: Words) -> Option<u64>
     ensures { result ≡ kind_of (first (left words.entry)) }
@@ -38,7 +38,7 @@ fn item(words: Words, i: usize) -> Option<u64>
     words.number(u64::MAX)
 }
 
-// How many numbers the pairs are.
+// How many numbers the pairs are. Not a `for` over the words: the place in the list is the count, which would be kept beside them.
 fn read_pairs(words: Words, list: &mut [u64]) -> Option<usize>
     ensures { paired result list.new ≡ pairs_of (left words.entry) 0 list.old }
 {

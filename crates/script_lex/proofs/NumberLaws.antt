@@ -3,7 +3,7 @@ use mathlib.Core.Path.{◌≡◌, refl, sym, ap, ◌∙◌}
 use mathlib.Core.Bool.{Bool, true, false, false≢true, ◌&&◌}
 use mathlib.Core.List.{List, [], ◌∷◌}
 use Rattle.std.specs.Prelude.{Option, Some, None}
-use Prim.Native.Nat.{ℕ, suc, ◌+◌, ◌-◌, ◌*◌, ◌^◌, ◌≤◌, ◌<◌}
+use Prim.Native.Nat.{ℕ, suc, ◌+◌, ◌-◌, ◌*◌, ◌≤◌, ◌<◌}
 use native.Mathlib.Omega.{arith}
 use borrow.Author.Tests.{leb-true, leb-false, le-leb, lt-leb, eq-eqb, ne_eqb}
 use lib.Dec.{eqb, leb}
@@ -15,23 +15,11 @@ use Rattle.script_lex.specs.Arguments.{one_of, two_of, join_two}
 use Rattle.script_lex.specs.Numbers.{is_digit, with_digit, takes, all_digits, value, number_from, number_of, plus, minus, signed_of}
 use Rattle.script_lex.proofs.Cases.{either}
 
--- ---- whether a digit is taken. 1844674407370955161 is 2^64 - 1 div 10
-
-module _ (limit n b : ℕ) where
-  pub too_large : limit < 2 ^ 64 → 1844674407370955161 < n → leb (with_digit n b) limit ≡ false
-  too_large l h = lt-leb _ _ (let z : limit < n * 10 + (b - 48) = omega arith in z)
-
-  pub over : limit < n * 10 → leb (with_digit n b) limit ≡ false
-  over h = lt-leb _ _ (let z : limit < n * 10 + (b - 48) = omega arith in z)
-
-  pub room : n * 10 ≤ limit → leb (b - 48) (limit - n * 10) ≡ leb (with_digit n b) limit
-  room h =
-      either (leb (with_digit n b) limit)
-      (λ t. le-leb _ _ (let l = leb-true (n * 10 + (b - 48)) limit t in let z : b - 48 ≤ limit - n * 10 = omega arith in z) ∙ sym t)
-      (λ t. lt-leb _ _ (let l = leb-false (n * 10 + (b - 48)) limit t in let z : limit - n * 10 < b - 48 = omega arith in z) ∙ sym t)
+-- ---- whether a digit is taken
 
 pub record Taken (limit n b : ℕ) : Type 0 where
   pub least : 48 ≤ b
+  pub most : b ≤ 57
   pub digit : is_digit b ≡ true
   pub within : with_digit n b ≤ limit
 
@@ -40,10 +28,18 @@ unfolding takes
 taken limit n b = go (leb 48 b) (leb b 57) (leb (with_digit n b) limit) refl refl refl
   where
     go : (x y z : Bool) → leb 48 b ≡ x → leb b 57 ≡ y → leb (with_digit n b) limit ≡ z → ((x && y) && z) ≡ true → Taken limit n b
-    go true true true d e f t = record { least = leb-true 48 b d; digit = simp (d, e); within = leb-true (with_digit n b) limit f }
+    go true true true d e f t = record { least = leb-true 48 b d; most = leb-true b 57 e; digit = simp (d, e); within = leb-true (with_digit n b) limit f }
     go true true false d e f t = absurd (false≢true t)
     go true false z d e f t = absurd (false≢true t)
     go false y z d e f t = absurd (false≢true t)
+
+pub taking : (limit n b : ℕ) → 48 ≤ b → b ≤ 57 → with_digit n b ≤ limit → takes limit n b ≡ true
+unfolding takes
+taking limit n b least most h = simp (le-leb 48 b least, le-leb b 57 most, le-leb (with_digit n b) limit h)
+
+-- a test that does not hold
+pub refused : (limit n b : ℕ) → (takes limit n b ≡ true → ⊥) → takes limit n b ≡ false
+refused limit n b h = either (takes limit n b) (λ t. absurd (h t)) (λ t. t)
 
 -- ---- a number at its next digit
 

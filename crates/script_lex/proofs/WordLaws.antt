@@ -1,6 +1,6 @@
 -- The words of a line by its places, as the code scans it.
 use mathlib.Core.Path.{◌≡◌, refl, sym, ap, ◌∙◌}
-use mathlib.Core.Bool.{true, false, false≢true}
+use mathlib.Core.Bool.{true, false, not, false≢true}
 use mathlib.Core.List.{List, [], ◌∷◌}
 use Prim.Native.Nat.{ℕ, suc, ◌+◌, ◌-◌, ◌*◌, ◌≤◌, ◌<◌}
 use native.Mathlib.Numerals.{add-one}
@@ -10,6 +10,7 @@ use lib.Dec.{eqb, leb}
 use lib.ListN.{length, get_or, take, drop, drop_of_length-le, length-drop}
 use lib.Seq.{drop-cons, drop-drop}
 use lib.Pointwise.{pointwise}
+use Rattle.std.specs.List.{prefix_len}
 use Rattle.script_lex.specs.Words.{blank, grown, pieces, full, words_of, first, others, none, same, blanks, letters, part}
 use Rattle.script_lex.proofs.Cases.{either}
 
@@ -76,42 +77,27 @@ unfolding none blanks
 some_word [] h = absurd (omega arith)
 some_word (b ∷ s) h = either (blank b) (λ e. simp (words-blank b s e) (some_word s (omega (arith, simp e at h)))) (λ e. simp (words-letter b s e))
 
-blanks-small : (s : List ℕ) → blanks s ≤ length s
+pub blanks-small : (s : List ℕ) → blanks s ≤ length s
 unfolding blanks
 blanks-small [] = omega arith
 blanks-small (b ∷ s) = either (blank b) (λ e. simp e (omega (arith, blanks-small s))) (λ e. simp e (omega arith))
 
-letters-small : (s : List ℕ) → letters s ≤ length s
+pub letters-small : (s : List ℕ) → letters s ≤ length s
 unfolding letters
 letters-small [] = omega arith
 letters-small (b ∷ s) = either (blank b) (λ e. simp e (omega arith)) (λ e. simp e (omega (arith, letters-small s)))
 
--- ---- the scans for a word's start and its end, at a place of a line
+-- ---- how many bytes at the head pass a test
 
-module _ (s : List ℕ) (at : ℕ) where
-  pub start-end : length s ≤ at → at + blanks (drop at s) ≡ at
-  unfolding blanks
-  start-end h = simp (drop_of_length-le s h) (omega arith)
+pub blanks-count : (s : List ℕ) → prefix_len blank s ≡ blanks s
+unfolding blanks
+blanks-count [] = refl
+blanks-count (b ∷ s) = either (blank b) (λ e. simp e (omega (arith, blanks-count s))) (λ e. simp e)
 
-  pub start-stop : at < length s → blank (get_or s at 0) ≡ false → at + blanks (drop at s) ≡ at
-  unfolding blanks
-  start-stop h e = simp (drop-cons s at 0 h, e) (omega arith)
-
-  pub start-more : at < length s → blank (get_or s at 0) ≡ true → at + blanks (drop at s) ≡ at + 1 + blanks (drop (at + 1) s)
-  unfolding blanks
-  start-more h e = simp (drop-cons s at 0 h, e, add-one at) (omega arith)
-
-  pub end-end : length s ≤ at → at + letters (drop at s) ≡ at
-  unfolding letters
-  end-end h = simp (drop_of_length-le s h) (omega arith)
-
-  pub end-stop : at < length s → blank (get_or s at 0) ≡ true → at + letters (drop at s) ≡ at
-  unfolding letters
-  end-stop h e = simp (drop-cons s at 0 h, e) (omega arith)
-
-  pub end_more : at < length s → blank (get_or s at 0) ≡ false → at + letters (drop at s) ≡ at + 1 + letters (drop (at + 1) s)
-  unfolding letters
-  end_more h e = simp (drop-cons s at 0 h, e, add-one at) (omega arith)
+pub letters-count : (s : List ℕ) → prefix_len (λ b. not (blank b)) s ≡ letters s
+unfolding letters
+letters-count [] = refl
+letters-count (b ∷ s) = either (blank b) (λ e. simp e) (λ e. simp e (omega (arith, letters-count s)))
 
 -- ---- the first word stands from `a` to `e`
 

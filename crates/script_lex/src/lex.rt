@@ -1,5 +1,5 @@
 // What is left of a line, its words from a place on, and the numbers that they tell.
-ghost use Rattle.std.specs.Prelude.{◌≡◌, true, ◌+◌, ◌≤◌, pos, neg_ℤ, drop};
+ghost use Rattle.std.specs.Prelude.{◌≡◌, true, ◌+◌, ◌≤◌, pos, neg_ℤ, drop, SomeIff};
 ghost use Rattle.script_lex.specs.Words.{blank, blanks, letters, words_at, first, others, none, same};
 ghost use Rattle.script_lex.specs.Left.{left};
 ghost use Rattle.script_lex.specs.Numbers.{takes, with_digit, number_of, plus, minus, signed_of};
@@ -22,52 +22,34 @@ fn is_blank(b: u8) -> bool
 fn word_start(line: &[u8], from: usize) -> usize
     ensures { result ≡ from + blanks (drop from line.now) }
 {
-    for at in from..line.len() {
-        if !is_blank(line[at]) {
-            return at;
-        }
-    }
-    from.max(line.len())
+    let passed = line.iter().skip(from).take_while(|&&b| is_blank(b)).count();
+    from + passed
 }
 
 // The first place from `from` on where a blank stands, or the line's end.
 fn word_end(line: &[u8], from: usize) -> usize
     ensures { result ≡ from + letters (drop from line.now) }
 {
-    for at in from..line.len() {
-        if is_blank(line[at]) {
-            return at;
-        }
-    }
-    from.max(line.len())
+    let passed = line
+        .iter()
+        .skip(from)
+        .take_while(|&&b| !is_blank(b))
+        .count();
+    from + passed
 }
 
-// Whether `b` is a digit, and `n` with it behind is within the limit.
-fn takes(limit: u64, n: u64, b: u8) -> bool
-    ensures { result ≡ takes limit n b }
+// `n` with `b` behind it, where `b` is a digit and the number is within the limit.
+fn with_digit(limit: u64, n: u64, b: u8) -> Option<u64>
+    ensures { SomeIff result (takes limit n b ≡ true) (with_digit n b) }
 {
-    if b < b'0' {
-        return false;
+    if b < b'0' || b'9' < b {
+        return None;
     }
-    if b'9' < b {
-        return false;
+    let longer = n.checked_mul(10)?.checked_add((b - b'0') as u64)?;
+    if limit < longer {
+        return None;
     }
-    if 1_844_674_407_370_955_161 < n {
-        return false;
-    }
-    let tens = n * 10;
-    if limit < tens {
-        return false;
-    }
-    let digit = (b - b'0') as u64;
-    digit <= limit - tens
-}
-
-fn with_digit(limit: u64, n: u64, b: u8) -> u64
-    requires { takes limit n b ≡ true }
-    ensures { result ≡ with_digit n b }
-{
-    n * 10 + ((b - b'0') as u64)
+    Some(longer)
 }
 
 // The number whose digits a word has, if it is within the limit.
@@ -79,10 +61,7 @@ pub fn number_in(word: &[u8], limit: u64) -> Option<u64>
     }
     let mut n: u64 = 0;
     for &b in word {
-        if !takes(limit, n, b) {
-            return None;
-        }
-        n = with_digit(limit, n, b);
+        n = with_digit(limit, n, b)?;
     }
     Some(n)
 }

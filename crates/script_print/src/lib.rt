@@ -27,7 +27,8 @@ fn digit(n: u64) -> u8
     48 + ((n % 10) as u8)
 }
 
-// Puts the digits of `n` at the end of `digits`, and answers where they start.
+// Puts the digits of `n` at the end of `digits`, and answers where they start. By hand: no formatter writes into a lent buffer by a contract that
+// names the bytes.
 fn spell(n: u64, digits: &mut [u8]) -> usize
     requires { length digits.old ≡ 20 }
     ensures digits { drop result digits.new ≡ decimal n }

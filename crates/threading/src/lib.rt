@@ -65,7 +65,7 @@ pub fn create_thread(w: &mut [u64], priority: u64) -> Result<ThreadId, Scheduler
     ensures { outcome (answer_of (λ id. answer.Thread id.0) result) w.new ≡ created w.old priority }
 {
     check_create(w, priority)?;
-    let id = std::num::wrapping_add_u64(words::get(w, layout::THREADS), 1);
+    let id = words::get(w, layout::THREADS).wrapping_add(1);
     add_thread(w, id, priority);
     Ok(ThreadId(id))
 }
@@ -140,7 +140,7 @@ fn is_owner_at(w: &[u64], base: usize, i: u64, id: u64) -> bool
         && words::get_in(w, at, layout::OWNER) == id
 }
 
-// Whether the thread owns a mutex.
+// Whether the thread owns a mutex. Proved by `any_from_walk`, as every walk of a table with a test.
 fn owns_mutex(w: &[u64], id: u64) -> bool
     ensures { result ≡ owns_mutex w.now id }
 {

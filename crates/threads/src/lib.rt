@@ -32,7 +32,8 @@ pub struct Thread {
     pub status: u64,
 }
 
-// A wait for any or all of `count` objects: of 64 places, each a kind and a key, the first `count`. A delay has none.
+// A wait for any or all of `count` objects: of 64 places, each a kind and a key, the first `count`. A delay has none. Its fields
+// are the words of a record, flags and all.
 #[derive(Clone, Copy, Debug, PartialEq, Eq)]
 pub struct Wait {
     pub all: u64,
@@ -112,7 +113,7 @@ fn fill(list: &[u64], n: usize) -> [u64; 128]
     places
 }
 
-// The record of a wait for the first `n` pairs of `list`.
+// The record of a wait for the first `n` pairs of `list`, given the other words as it holds them.
 pub fn record_of(list: &[u64], n: usize, all: u64, timed: u64, deadline: u64, sequence: u64) -> Wait
     requires { n ≤ 64 }
     ensures { result ≡ recorded list.now n all timed deadline sequence }
@@ -157,6 +158,7 @@ pub fn write_wait(w: &mut [u64], id: u64, x: Wait)
     put_places(w, places_at(id), &x.places[..2 * x.count as usize]);
 }
 
+// A function: a const of 1 KB is copied all the same, and is no plainer.
 pub fn no_wait() -> Wait
     ensures { result ≡ no_wait }
 {

@@ -34,6 +34,7 @@ fn object_overlaps(w: &[u64], at: usize, address: u64, size: u64) -> bool
     }
 }
 
+// Proved by `any_from_walk`, as every walk of a table with a test.
 #[tactic(auto, unfolding(crate::specs::Initialize::any_object))]
 fn any_object(w: &[u64], address: u64, size: u64) -> bool
     ensures { result ≡ any_object w.now address size }
@@ -49,6 +50,7 @@ fn dpc_overlaps(w: &[u64], at: usize, address: u64, size: u64) -> bool
     words::get_in(w, at, layout::ADDRESS) != address && record::dpc_overlaps(w, at, address, size)
 }
 
+// Proved by `any_from_walk`, as every walk of a table with a test.
 #[tactic(auto, unfolding(crate::specs::Initialize::any_dpc))]
 fn any_dpc(w: &[u64], address: u64, size: u64) -> bool
     ensures { result ≡ any_dpc w.now address size }

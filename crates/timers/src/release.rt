@@ -58,6 +58,7 @@ fn timer_held(w: &[u64], at: usize, address: u64, size: u64) -> bool
     timer_stands(w, at, address, size) && is_timer_held(w, at)
 }
 
+// Proved by `any_from_walk`, as every walk of a table with a test.
 #[tactic(auto, unfolding(crate::specs::Release::any_timer_held))]
 fn any_timer_held(w: &[u64], address: u64, size: u64) -> bool
     ensures { result ≡ any_timer_held w.now address size }
@@ -81,6 +82,7 @@ fn dpc_held(w: &[u64], at: usize, address: u64, size: u64) -> bool
     record::dpc_overlaps(w, at, address, size) && is_dpc_held(w, at)
 }
 
+// Proved by `any_from_walk`, as every walk of a table with a test.
 #[tactic(auto, unfolding(crate::specs::Release::any_dpc_held))]
 fn any_dpc_held(w: &[u64], address: u64, size: u64) -> bool
     ensures { result ≡ any_dpc_held w.now address size }

@@ -6,13 +6,13 @@ ghost use Rattle.exports.specs.SchedulerAnswer.{truth, given, changed_by, given_
 ghost use Rattle.raw_exports.specs.Dispatch.{dispatched_by};
 ghost use Rattle.unchecked.specs.Unchecked.{unchecked};
 
-use exports::scheduler_answer::{change, put_answer};
+use exports::scheduler_answer::change;
 
 #[unsafe(no_mangle)]
 pub extern "C" fn unchecked_create_thread(words: &mut [u64], priority: u64, out: &mut [u64]) -> u64
     ensures { given result words.new out.new ≡ changed_by words.old out.old (unchecked words.old (call.CreateThread priority)) }
 {
-    change(words, out, |w| threading::create_thread(w, priority))
+    raw_exports::changes::raw_create_thread(words, priority, out)
 }
 
 #[unsafe(no_mangle)]
@@ -24,28 +24,28 @@ pub extern "C" fn unchecked_priority(
 ) -> u64
     ensures { given result words.new out.new ≡ changed_by words.old out.old (unchecked words.old (call.Priority id priority)) }
 {
-    change(words, out, |w| threading::priority(w, id, priority))
+    raw_exports::changes::raw_priority(words, id, priority, out)
 }
 
 #[unsafe(no_mangle)]
 pub extern "C" fn unchecked_yield_current(words: &mut [u64], out: &mut [u64]) -> u64
     ensures { given result words.new out.new ≡ changed_by words.old out.old (unchecked words.old call.YieldCurrent) }
 {
-    change(words, out, |w| threading::yield_current(w))
+    raw_exports::changes::raw_yield_current(words, out)
 }
 
 #[unsafe(no_mangle)]
 pub extern "C" fn unchecked_terminate(words: &mut [u64], status: u32, out: &mut [u64]) -> u64
     ensures { given result words.new out.new ≡ changed_by words.old out.old (unchecked words.old (call.Terminate status)) }
 {
-    change(words, out, |w| threading::terminate(w, status))
+    raw_exports::changes::raw_terminate(words, status, out)
 }
 
 #[unsafe(no_mangle)]
 pub extern "C" fn unchecked_initialize_mutex(words: &mut [u64], key: u64, out: &mut [u64]) -> u64
     ensures { given result words.new out.new ≡ changed_by words.old out.old (unchecked words.old (call.InitializeMutex key)) }
 {
-    change(words, out, |w| mutexes::initialize_mutex(w, key))
+    raw_exports::changes::raw_initialize_mutex(words, key, out)
 }
 
 #[unsafe(no_mangle)]
@@ -69,7 +69,7 @@ pub extern "C" fn unchecked_adopt_mutex(
 pub extern "C" fn unchecked_release_mutex(words: &mut [u64], key: u64, out: &mut [u64]) -> u64
     ensures { given result words.new out.new ≡ changed_by words.old out.old (unchecked words.old (call.ReleaseMutex key)) }
 {
-    change(words, out, |w| mutexes::release_mutex(w, key))
+    raw_exports::changes::raw_release_mutex(words, key, out)
 }
 
 #[unsafe(no_mangle)]
@@ -82,25 +82,21 @@ pub extern "C" fn unchecked_initialize_event(
 ) -> u64
     ensures { given result words.new out.new ≡ changed_by words.old out.old (unchecked words.old (call.InitializeEvent key (truth manual) (truth signaled))) }
 {
-    change(
-        words,
-        out,
-        |w| events::initialize_event(w, key, manual != 0, signaled != 0),
-    )
+    raw_exports::changes::raw_initialize_event(words, key, manual, signaled, out)
 }
 
 #[unsafe(no_mangle)]
 pub extern "C" fn unchecked_set_event(words: &mut [u64], key: u64, out: &mut [u64]) -> u64
     ensures { given result words.new out.new ≡ changed_by words.old out.old (unchecked words.old (call.SetEvent key)) }
 {
-    change(words, out, |w| events::set_event(w, key))
+    raw_exports::changes::raw_set_event(words, key, out)
 }
 
 #[unsafe(no_mangle)]
 pub extern "C" fn unchecked_reset_event(words: &mut [u64], key: u64, out: &mut [u64]) -> u64
     ensures { given result words.new out.new ≡ changed_by words.old out.old (unchecked words.old (call.ResetEvent key)) }
 {
-    change(words, out, |w| events::reset_event(w, key))
+    raw_exports::changes::raw_reset_event(words, key, out)
 }
 
 #[unsafe(no_mangle)]
@@ -113,11 +109,7 @@ pub extern "C" fn unchecked_retire_event_backing(
 ) -> u64
     ensures { given result words.new out.new ≡ changed_by words.old out.old (unchecked words.old (call.RetireEventBacking base size layout)) }
 {
-    change(
-        words,
-        out,
-        |w| event_release::retire_event_backing(w, base, size, layout),
-    )
+    raw_exports::changes::raw_retire_event_backing(words, base, size, layout, out)
 }
 
 #[unsafe(no_mangle)]
@@ -129,14 +121,14 @@ pub extern "C" fn unchecked_delay_until(
 ) -> u64
     ensures { given result words.new out.new ≡ changed_by words.old out.old (unchecked words.old (call.DelayUntil deadline irql)) }
 {
-    change(words, out, |w| waiting::delay_until(w, deadline, irql))
+    raw_exports::changes::raw_delay_until(words, deadline, irql, out)
 }
 
 #[unsafe(no_mangle)]
 pub extern "C" fn unchecked_advance_to(words: &mut [u64], time: u64, out: &mut [u64]) -> u64
     ensures { given result words.new out.new ≡ changed_by words.old out.old (unchecked words.old (call.AdvanceTo time)) }
 {
-    change(words, out, |w| advancing::advance_to(w, time))
+    raw_exports::changes::raw_advance_to(words, time, out)
 }
 
 #[unsafe(no_mangle)]
@@ -162,9 +154,5 @@ pub extern "C" fn unchecked_wait(
 pub extern "C" fn unchecked_dispatch(words: &mut [u64], waiting: &mut [u64], out: &mut [u64]) -> u64
     ensures { given_all result words.new waiting.new out.new ≡ dispatched_by words.old waiting.old out.old (unchecked words.old (call.Dispatch (length waiting.old)) waiting.old) }
 {
-    if out.len() < 4 {
-        return 27;
-    }
-    let answer = dispatcher::dispatch::dispatch(words, waiting);
-    put_answer(out, answer.into())
+    raw_exports::changes::raw_dispatch(words, waiting, out)
 }

@@ -5,9 +5,6 @@ ghost use Rattle.exports.specs.SchedulerAnswer.{given, changed_by};
 ghost use Rattle.exports.specs.RecordCall.{started_by};
 ghost use Rattle.unchecked.specs.Unchecked.{unchecked};
 
-use exports::record_answer::put_work_answer;
-use exports::scheduler_answer::change;
-
 #[unsafe(no_mangle)]
 pub extern "C" fn unchecked_configure_dpc_dispatch(
     words: &mut [u64],
@@ -17,11 +14,7 @@ pub extern "C" fn unchecked_configure_dpc_dispatch(
 ) -> u64
     ensures { given result words.new out.new ≡ changed_by words.old out.old (unchecked words.old (call.ConfigureDpcDispatch first second)) }
 {
-    change(
-        words,
-        out,
-        |w| dpc_work::configure_dpc_dispatch(w, first, second),
-    )
+    raw_exports::dpc_calls::raw_configure_dpc_dispatch(words, first, second, out)
 }
 
 #[unsafe(no_mangle)]
@@ -34,11 +27,7 @@ pub extern "C" fn unchecked_insert_queue_dpc(
 ) -> u64
     ensures { given result words.new out.new ≡ changed_by words.old out.old (unchecked words.old (call.InsertQueueDpc address first second)) }
 {
-    change(
-        words,
-        out,
-        |w| dpc_work::insert_queue_dpc(w, address, first, second),
-    )
+    raw_exports::dpc_calls::raw_insert_queue_dpc(words, address, first, second, out)
 }
 
 #[unsafe(no_mangle)]
@@ -49,18 +38,14 @@ pub extern "C" fn unchecked_remove_queue_dpc(
 ) -> u64
     ensures { given result words.new out.new ≡ changed_by words.old out.old (unchecked words.old (call.RemoveQueueDpc address)) }
 {
-    change(words, out, |w| dpc_work::remove_queue_dpc(w, address))
+    raw_exports::dpc_calls::raw_remove_queue_dpc(words, address, out)
 }
 
 #[unsafe(no_mangle)]
 pub extern "C" fn unchecked_start_dpc(words: &mut [u64], address: u64, out: &mut [u64]) -> u64
     ensures { given result words.new out.new ≡ started_by words.old out.old (unchecked words.old (call.StartDpc address)) }
 {
-    if out.len() < 24 {
-        return 27;
-    }
-    let answer = dpc_work::start_dpc(words, address);
-    put_work_answer(out, answer)
+    raw_exports::dpc_calls::raw_start_dpc(words, address, out)
 }
 
 #[unsafe(no_mangle)]
@@ -72,7 +57,7 @@ pub extern "C" fn unchecked_returned_dpc(
 ) -> u64
     ensures { given result words.new out.new ≡ changed_by words.old out.old (unchecked words.old (call.ReturnedDpc address sequence)) }
 {
-    change(words, out, |w| dpc_work::returned_dpc(w, address, sequence))
+    raw_exports::dpc_calls::raw_returned_dpc(words, address, sequence, out)
 }
 
 #[unsafe(no_mangle)]
@@ -84,5 +69,5 @@ pub extern "C" fn unchecked_restored_dpc(
 ) -> u64
     ensures { given result words.new out.new ≡ changed_by words.old out.old (unchecked words.old (call.RestoredDpc address sequence)) }
 {
-    change(words, out, |w| dpc_work::restored_dpc(w, address, sequence))
+    raw_exports::dpc_calls::raw_restored_dpc(words, address, sequence, out)
 }

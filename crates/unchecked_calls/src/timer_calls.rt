@@ -67,11 +67,7 @@ pub extern "C" fn unchecked_set_timer(
 ) -> u64
     ensures { given result words.new out.new ≡ changed_by words.old out.old (unchecked words.old (call.SetTimer address due (truth absolute) period dpc)) }
 {
-    change(
-        words,
-        out,
-        |w| arming::set_timer(w, address, due, absolute != 0, period, dpc),
-    )
+    raw_exports::timer_calls::raw_set_timer(words, address, due, absolute, period, dpc, out)
 }
 
 // A due of -d is d ticks from now; a due that is not negative is a time.
@@ -97,7 +93,7 @@ pub extern "C" fn unchecked_set_timer_signed(
 pub extern "C" fn unchecked_cancel_timer(words: &mut [u64], address: u64, out: &mut [u64]) -> u64
     ensures { given result words.new out.new ≡ changed_by words.old out.old (unchecked words.old (call.CancelTimer address)) }
 {
-    change(words, out, |w| arming::cancel_timer(w, address))
+    raw_exports::timer_calls::raw_cancel_timer(words, address, out)
 }
 
 #[unsafe(no_mangle)]
@@ -109,9 +105,5 @@ pub extern "C" fn unchecked_retire_timer_backing(
 ) -> u64
     ensures { given result words.new out.new ≡ changed_by words.old out.old (unchecked words.old (call.RetireTimerBacking address size)) }
 {
-    change(
-        words,
-        out,
-        |w| timers::release::retire_timer_backing(w, address, size),
-    )
+    raw_exports::timer_calls::raw_retire_timer_backing(words, address, size, out)
 }

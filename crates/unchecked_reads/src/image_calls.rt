@@ -4,7 +4,7 @@ ghost use Rattle.model.specs.Call as call;
 ghost use Rattle.exports.specs.RecordCall.{given_image, imaged_by};
 ghost use Rattle.unchecked.specs.Unchecked.{unchecked};
 
-use exports::scheduler_answer::put_answer;
+use exports::scheduler_answer::image;
 
 #[unsafe(no_mangle)]
 pub extern "C" fn unchecked_timer_image(
@@ -15,11 +15,7 @@ pub extern "C" fn unchecked_timer_image(
 ) -> u64
     ensures { given_image result bytes.new out.new ≡ imaged_by bytes.old out.old (unchecked words.now (call.Reads (call.TimerImage address (length bytes.old))) bytes.old) }
 {
-    if out.len() < 4 {
-        return 27;
-    }
-    let answer = unchecked::timer_image(words, address, bytes);
-    put_answer(out, answer.into())
+    image(bytes, out, |b| unchecked::timer_image(words, address, b))
 }
 
 #[unsafe(no_mangle)]
@@ -31,9 +27,5 @@ pub extern "C" fn unchecked_dpc_image(
 ) -> u64
     ensures { given_image result bytes.new out.new ≡ imaged_by bytes.old out.old (unchecked words.now (call.Reads (call.DpcImage address (length bytes.old))) bytes.old) }
 {
-    if out.len() < 4 {
-        return 27;
-    }
-    let answer = unchecked::dpc_image(words, address, bytes);
-    put_answer(out, answer.into())
+    image(bytes, out, |b| unchecked::dpc_image(words, address, b))
 }

@@ -6,8 +6,8 @@ ghost use Rattle.answers.specs.Errors.{refusal, answer_of};
 ghost use Rattle.answers.specs.Outcome.{outcome};
 ghost use Rattle.waiting.specs.Wait.{pair_count, list_refusal, wait_refusal, block_refusal, reached, with_result, left, parked, blocked_words, granted, timed_out, decided, waited, delay_wait, delayed, told_result, told};
 
-use answers::Answer;
 use answers::error::SchedulerError;
+use answers::{Answer, ThreadId};
 use chains::ready;
 use waits::lists::Pairs;
 use words::layout;
@@ -71,10 +71,7 @@ fn check_list(list: &[u64]) -> Result<(), SchedulerError>
 fn check_wait(w: &[u64], list: &[u64]) -> Result<(), SchedulerError>
     ensures { refusal result ≡ wait_refusal w.now list.now }
 {
-    let id = words::get(w, layout::CURRENT);
-    if id == 0 {
-        return Err(SchedulerError::NoCurrentThread);
-    }
+    let ThreadId(id) = threading::current(w).ok_or(SchedulerError::NoCurrentThread)?;
     check_list(list)?;
     let list = pairs(list);
     if list.has_unknown(w) {
@@ -121,7 +118,7 @@ fn leave(w: &mut [u64], sequence: u64)
     ensures { w.new ≡ left w.old sequence }
 {
     words::put(w, layout::CURRENT, 0);
-    words::put(w, layout::SEQUENCE, std::num::wrapping_add_u64(sequence, 1));
+    words::put(w, layout::SEQUENCE, sequence.wrapping_add(1));
 }
 
 // The thread waiting, last in the order of blocking.
@@ -156,7 +153,7 @@ fn grant(w: &mut [u64], id: u64, list: &Pairs<'_>, all: u64) -> WaitResult
 {
     let i = list.index(w, all);
     list.take(w, id, all);
-    set_result(w, id, std::num::wrapping_add_u64(i, threads::SATISFIED));
+    set_result(w, id, i.wrapping_add(threads::SATISFIED));
     WaitResult::Satisfied(i)
 }
 
@@ -209,7 +206,7 @@ pub fn wait(
     }
     let sequence = words::get(w, layout::SEQUENCE);
     let x = threads::record_of(list, pairs.n, every, u64::from(timed), deadline, sequence);
-    decide(w, id, irql as u64, x)
+    decide(w, id, u64::from(irql), x)
 }
 
 // A wait for no object, until a deadline.
@@ -235,10 +232,7 @@ pub fn delay_until(w: &mut [u64], deadline: u64, irql: u8) -> Result<WaitOutcome
     if 1 < irql {
         return Err(SchedulerError::InvalidIrql);
     }
-    let id = words::get(w, layout::CURRENT);
-    if id == 0 {
-        return Err(SchedulerError::NoCurrentThread);
-    }
+    let ThreadId(id) = threading::current(w).ok_or(SchedulerError::NoCurrentThread)?;
     let sequence = words::get(w, layout::SEQUENCE);
-    decide(w, id, irql as u64, delay_wait(deadline, sequence))
+    decide(w, id, u64::from(irql), delay_wait(deadline, sequence))
 }

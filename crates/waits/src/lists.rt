@@ -80,7 +80,7 @@ impl<'a> Pairs<'a> {
         (0..self.n).all(|i| object::is_available(w, self.kind(i), self.key(i)))
     }
 
-    // The place of the first available object, or `n`.
+    // The place of the first available object, or `n` where there is none, as the definition has it.
     fn first(&self, w: &[u64]) -> usize
         ensures { result ≡ first_in self.now.n w.now self.now.src.now self.now.at 0 }
     {
@@ -89,7 +89,7 @@ impl<'a> Pairs<'a> {
             .unwrap_or(self.n)
     }
 
-    // Whether a wait for any (`all` is 0) or all of the objects can be granted.
+    // Whether a wait for any (`all`, a word of the record, is 0) or all of the objects can be granted.
     #[tactic(auto, unfolding(crate::specs::Lists::met_in))]
     pub fn is_met(&self, w: &[u64], all: u64) -> bool
         ensures { result ≡ met_in w.now self.now.src.now self.now.at self.now.n all }

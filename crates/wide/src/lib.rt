@@ -1,4 +1,4 @@
-// Arithmetic past 64 bits: exact products in two words, and their tenths.
+// Arithmetic past 64 bits: exact products in two words, and their tenths. Not u128: document 01 asks for split words.
 #![tactic(auto)]
 
 ghost use Rattle.std.specs.Prelude.{◌≡◌, ◌+◌, ◌*◌, ◌/◌, ◌%◌, ◌^◌};

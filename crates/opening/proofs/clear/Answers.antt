@@ -1,15 +1,11 @@
-use mathlib.Core.Path.{◌≡◌}
-use native.Mathlib.Omega.{arith}
+use Rattle.std.proofs.Common.{arith, replicate, ℕ, length, ◌≡◌, rules}
+use Rattle.std.proofs.lemmas.Grind.{common_steps}
 use Rattle.words.specs.Layout as at
-use Rattle.opening.proofs.OpenLaws.{cleared-none, cleared-next}
-use borrow.Author.Rules.{rules}
+use Rattle.opening.proofs.OpenLaws.{cleared-start}
 use Rattle.opening.proofs.clear.Goals as goal
 
-pub loop-i-init : goal.loop-i-init
-loop-i-init c = (search rules, cleared-none _)
-
-pub loop-i-preserved : goal.loop-i-preserved
-loop-i-preserved c = (search rules, cc (cleared-next c.loop-i.i c.args.w.now))
-
 pub returns : goal.returns
-returns c = let e : c.loop-i.i ≡ at.unused = omega arith in cc
+returns c =
+    let e : c.fill.new.self ≡ replicate {A = ℕ} c.min-n.result 0 = search rules in
+    let n : length (replicate {A = ℕ} c.min-n.result 0) ≡ c.min-n.result = grind (arith, common_steps) in
+    cc (e, n, cleared-start c.min-n.result at.unused c.args.w.now (omega arith) (omega arith) (λ l. omega (arith, l)))

@@ -7,7 +7,7 @@ use Rattle.exports.proofs.AnswerLaws.{dispatched-short, dispatched-by}
 use Rattle.exports.proofs.scheduler_calls.scheduler_dispatch.Goals as goal
 
 pub returns-then-out-lt4 : goal.returns-then-out-lt4
-returns-then-out-lt4 c = dispatched-short c.args.words.now c.args.waiting.now c.args.out.now c.if-out-lt4.true
+returns-then-out-lt4 c = (λ i. given_all (c.number.ensures i) c.args.words.now c.args.waiting.now c.args.out.now) ∙ dispatched-short c.args.words.now c.args.waiting.now c.args.out.now c.if-out-lt4.true
 
 pub returns : goal.returns
 returns c = (λ i. given_all (c.put_answer.ensures.0 i) c.dispatch-answer.new.w c.dispatch-answer.new.out (c.put_answer.ensures.1 i)) ∙ dispatched-by c.args.words.now c.args.waiting.now c.args.out.now c.into.result c.dispatch-answer.new.w c.dispatch-answer.new.out c.if-out-lt4.false (ap (λ (a : Answer). told a c.dispatch-answer.new.w c.dispatch-answer.new.out) (told-is _ _ _ c.into.ensures (λ x b e. e)) ∙ c.dispatch-answer.ensures)

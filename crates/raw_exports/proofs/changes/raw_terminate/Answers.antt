@@ -1,6 +1,5 @@
 use Rattle.std.proofs.Common.{rules, tests}
 use Rattle.answers.proofs.Converted.{told-outcome}
-use Rattle.answers.specs.Errors.{thread}
 use Rattle.answers.specs.declared.Answer.TheVariants.{Done}
 use Rattle.threading.specs.Thread as thread
 use Rattle.raw_exports.proofs.changes.raw_terminate.Goals as goal

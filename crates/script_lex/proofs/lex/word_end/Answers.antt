@@ -1,19 +1,19 @@
-use mathlib.Core.Path.{◌≡◌, refl, sym, ◌∙◌}
+use mathlib.Core.Path.{refl, ◌∙◌}
+use mathlib.Core.Bool.{not}
 use native.Mathlib.Omega.{arith}
-use lib.ListN.{length}
-use Rattle.std.proofs.Common.{max}
-use Rattle.script_lex.proofs.WordLaws.{end-end, end-stop, end_more}
+use lib.ListN.{drop, length-drop}
+use Rattle.std.proofs.Common.{rules, tests}
+use Rattle.std.proofs.lemmas.Iterator.{YieldsList-from_slice}
+use Rattle.std.proofs.lemmas.Iterator.Adapters.{YieldsList-from_skip}
+use Rattle.std.proofs.lemmas.Iterator.Consumers.{count_from_yields_List}
+use Rattle.std.proofs.lemmas.Iterator.Search.{YieldsList-from_take_while}
+use Rattle.std.proofs.lemmas.List.Folds.{length-prefix_len}
+use Rattle.script_lex.specs.Words.{blank}
+use Rattle.script_lex.proofs.WordLaws.{letters-small, letters-count}
 use Rattle.script_lex.proofs.lex.word_end.Goals as goal
 
-pub loop-at-init : goal.loop-at-init
-loop-at-init c = (omega arith, refl)
-
-pub returns-then-is_blank : goal.returns-then-is_blank
-returns-then-is_blank c = sym (end-stop c.args.line.now c.loop-at.at c.loop-at-test.true (sym c.is_blank.ensures ∙ c.if-is_blank.true)) ∙ c.loop-at.invariant.1
-
-pub loop-at-preserved : goal.loop-at-preserved
-loop-at-preserved c = (omega arith, sym (end_more c.args.line.now c.loop-at.at c.loop-at-test.true (sym c.is_blank.ensures ∙ c.if-is_blank.false)) ∙ c.loop-at.invariant.1)
+pub overflow_add-result : goal.overflow_add-result
+overflow_add-result c = let e = (count_from_yields_List c.take_while.result _ c.count-passed.ensures.ran (YieldsList-from_take_while _ (λ b. not (blank b)) (YieldsList-from_skip _ (YieldsList-from_slice c.args.line.now (cc)) (cc)) c.take_while.ensures.closure c.take_while.ensures.done (λ x b q k. search (rules, tests))) ∙ length-prefix_len (λ b. not (blank b)) (drop c.args.from c.args.line.now) ∙ letters-count (drop c.args.from c.args.line.now)) in omega (arith, e, letters-small (drop c.args.from c.args.line.now), length-drop c.args.from c.args.line.now)
 
 pub returns : goal.returns
-returns c = let e : max c.args.from (length c.args.line.now) ≡ c.loop-at.at = omega arith in
-    c.max.ensures ∙ e ∙ sym (end-end c.args.line.now c.loop-at.at c.loop-at-test.false) ∙ c.loop-at.invariant.1
+returns c = let e = (count_from_yields_List c.take_while.result _ c.count-passed.ensures.ran (YieldsList-from_take_while _ (λ b. not (blank b)) (YieldsList-from_skip _ (YieldsList-from_slice c.args.line.now (cc)) (cc)) c.take_while.ensures.closure c.take_while.ensures.done (λ x b q k. search (rules, tests))) ∙ length-prefix_len (λ b. not (blank b)) (drop c.args.from c.args.line.now) ∙ letters-count (drop c.args.from c.args.line.now)) in rw e refl

@@ -1,7 +1,0 @@
-use mathlib.Core.Path.{◌∙◌, ap}
-use Rattle.calls.specs.Guard as kind
-use Rattle.exports.specs.RecordCall.{read_by}
-use Rattle.exports.proofs.dpc_calls.scheduler_dpc_counters.Goals as goal
-
-pub returns : goal.returns
-returns c = c.counters_answer.ensures c.args.words.now ∙ ap (read_by kind.counts c.args.words.now c.args.out.now) (c.dpc_counters.ensures)

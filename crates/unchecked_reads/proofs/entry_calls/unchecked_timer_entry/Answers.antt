@@ -1,7 +1,0 @@
-use mathlib.Core.Path.{◌∙◌, ap}
-use Rattle.calls.specs.Guard as kind
-use Rattle.exports.specs.RecordCall.{read_by}
-use Rattle.unchecked_reads.proofs.entry_calls.unchecked_timer_entry.Goals as goal
-
-pub returns : goal.returns
-returns c = c.timer_answer.ensures c.args.words.now ∙ ap (read_by kind.timers c.args.words.now c.args.out.now) (c.timer_entry.ensures)

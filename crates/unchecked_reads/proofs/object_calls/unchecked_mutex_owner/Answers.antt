@@ -1,9 +1,0 @@
-use mathlib.Core.Path.{refl, ◌∙◌}
-use Rattle.answers.proofs.Converted.{told-is, told-or-none}
-use Rattle.answers.specs.Errors.{thread_or_none}
-use Rattle.unchecked.specs.Unchecked.{unchecked}
-use Rattle.unchecked_reads.proofs.object_calls.unchecked_mutex_owner.Goals as goal
-
-pub returns : goal.returns
-unfolding unchecked
-returns c = c.answer.ensures _ (λ x says. (told-is _ _ x says (told-or-none thread_or_none refl (λ x b e. e)) ∙ c.mutex_owner.ensures)) _

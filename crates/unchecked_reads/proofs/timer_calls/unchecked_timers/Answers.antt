@@ -1,9 +1,0 @@
-use mathlib.Core.Path.{◌∙◌, ap}
-use Rattle.calls.specs.Guard as kind
-use Rattle.exports.specs.RecordCall.{read_by}
-use Rattle.unchecked.specs.Unchecked.{unchecked}
-use Rattle.unchecked_reads.proofs.timer_calls.unchecked_timers.Goals as goal
-
-pub returns : goal.returns
-unfolding unchecked
-returns c = c.timer_answer.ensures c.args.words.now ∙ ap (read_by kind.timers c.args.words.now c.args.out.now) (c.timers_at.ensures)
