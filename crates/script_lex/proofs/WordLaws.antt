@@ -9,6 +9,7 @@ use borrow.Author.Tests.{leb-true, leb-false}
 use lib.Dec.{eqb, leb}
 use lib.ListN.{length, get_or, take, drop, drop_of_length-le, length-drop}
 use lib.Seq.{drop-cons, drop-drop}
+use Rattle.std.proofs.Math.Seq.{take-length}
 use lib.Pointwise.{pointwise}
 use Rattle.std.specs.List.{prefix_len}
 use Rattle.script_lex.specs.Words.{blank, grown, pieces, full, words_of, first, others, none, same, blanks, letters, part}
@@ -86,6 +87,22 @@ pub letters-small : (s : List ℕ) → letters s ≤ length s
 unfolding letters
 letters-small [] = omega arith
 letters-small (b ∷ s) = either (blank b) (λ e. simp e (omega arith)) (λ e. simp e (omega (arith, letters-small s)))
+
+-- ---- what is left of a text is all that stands there
+
+pub rest-is : (s : List ℕ) (at : ℕ) → take (length s - at) (drop at s) ≡ drop at s
+rest-is s at = ap (λ (n : ℕ). take n (drop at s)) (sym (length-drop at s)) ∙ take-length (drop at s)
+
+-- ---- where nothing is left there is no word
+
+module _ (s : List ℕ) (at : ℕ) where
+  pub start-end : length s ≤ at → at ≡ at + blanks (drop at s)
+  unfolding blanks
+  start-end h = simp (drop_of_length-le s h) (omega arith)
+
+  pub end-end : length s ≤ at → at ≡ at + letters (drop at s)
+  unfolding letters
+  end-end h = simp (drop_of_length-le s h) (omega arith)
 
 -- ---- how many bytes at the head pass a test
 

@@ -18,11 +18,14 @@ fn is_blank(b: u8) -> bool
     b == b' ' || b == b'\t'
 }
 
-// The first place from `from` on where no blank stands.
+// The first place from `from` on where no blank stands. Not by `skip`, which passes the bytes before `from` one by one.
 fn word_start(line: &[u8], from: usize) -> usize
     ensures { result ≡ from + blanks (drop from line.now) }
 {
-    let passed = line.iter().skip(from).take_while(|&&b| is_blank(b)).count();
+    if line.len() <= from {
+        return from;
+    }
+    let passed = line[from..].iter().take_while(|&&b| is_blank(b)).count();
     from + passed
 }
 
@@ -30,11 +33,10 @@ fn word_start(line: &[u8], from: usize) -> usize
 fn word_end(line: &[u8], from: usize) -> usize
     ensures { result ≡ from + letters (drop from line.now) }
 {
-    let passed = line
-        .iter()
-        .skip(from)
-        .take_while(|&&b| !is_blank(b))
-        .count();
+    if line.len() <= from {
+        return from;
+    }
+    let passed = line[from..].iter().take_while(|&&b| !is_blank(b)).count();
     from + passed
 }
 
@@ -140,7 +142,8 @@ impl<'a> Words<'a> {
         &self.line[from..to]
     }
 
-    // Whether the first word is `name`.
+    // Whether the first word is `name`. Inlined, since a reader asks it of one name after another.
+    #[inline(always)]
     pub fn is(self, name: &[u8]) -> bool
         ensures { result ≡ same (first (left self.entry)) name.now }
     {
