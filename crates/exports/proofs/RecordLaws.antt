@@ -1,17 +1,21 @@
 -- What an exported call gives that reads, or answers work or an image, from what the call answers.
-use mathlib.Core.Path.{◌≡◌, ap}
+use mathlib.Core.Path.{◌≡◌, ap, refl}
 use mathlib.Core.List.{List}
 use Prim.Native.Nat.{ℕ, ◌≤◌, ◌<◌}
 use lib.ListN.{length}
 use borrow.Author.Tests.{lt-ltb, le-ltb}
+use Rattle.std.specs.Prelude.{Result, Ok, Err}
+use Rattle.answers.specs.declared.error.SchedulerError.{SchedulerError}
 use Rattle.answers.specs.declared.Answer.{Answer}
-use Rattle.dpc_work.specs.Work.{Started, start_outcome}
-use Rattle.dpc_work.specs.WorkAnswer.{WorkAnswer}
+use Rattle.answers.specs.Errors.{told_by}
+use Rattle.images.specs.declared.DpcWork.{DpcWork}
+use Rattle.dpc_work.specs.Work.{Started, start_outcome, told}
+use Rattle.dpc_work.specs.WorkAnswer.{WorkAnswer, Work, Refused}
 use Rattle.calls.specs.Guard.{Kind, Code}
 use Rattle.calls.specs.Images.{Imaged, imaged}
 use Rattle.exports.specs.SchedulerAnswer.{given, refusal_of, answer_in}
-use Rattle.exports.specs.RecordAnswer.{refusal_as, answer_as, work_refusal, work_answer_in}
-use Rattle.exports.specs.RecordCall.{room, read_by, started_by, given_image, imaged_by}
+use Rattle.exports.specs.RecordAnswer.{told_by_number, refusal_as, answer_as, work_refusal, work_answer_in}
+use Rattle.exports.specs.RecordCall.{room, read_by, started_by, by_number, given_image, imaged_by}
 
 module _ (k : Kind) (w out : List ℕ) where
   pub read_short : (a : Code k) → length out < room k → given 27 w out ≡ read_by k w out a
@@ -41,3 +45,13 @@ module _ (bytes out : List ℕ) where
       → given_image (refusal_of a) after (answer_in out a) ≡ imaged_by bytes out i
   unfolding imaged_by
   image-by i a after h e = simp (le-ltb _ _ h) (ap (λ (x : Imaged). given_image (refusal_of x.answer) x.output (answer_in out x.answer)) e)
+
+-- ---- a refusal of the calls by its number
+
+pub told-by-number : {A B : Type 0} (tell : A → B) (refuse : ℕ → B) (r : Result A SchedulerError) → told_by_number tell refuse (by_number r) ≡ told_by tell refuse r
+told-by-number tell refuse (Ok a) = refl
+told-by-number tell refuse (Err e) = refl
+
+pub work-by-number : (r : Result DpcWork SchedulerError) → told_by_number Work Refused (by_number r) ≡ told r
+work-by-number (Ok work) = refl
+work-by-number (Err e) = refl

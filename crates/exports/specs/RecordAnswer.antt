@@ -1,5 +1,5 @@
 -- A record that a call answers, in lent words: a tag, and the record's values behind it.
-use Rattle.std.specs.Prelude.{Bool, ℕ, ◌+◌, List, set}
+use Rattle.std.specs.Prelude.{Bool, ℕ, ◌+◌, List, set, Result, Ok, Err}
 use Rattle.answers.specs.Outcome.{bit}
 use Rattle.arch.specs.declared.Architecture.{Architecture}
 use Rattle.images.specs.Place.{architecture_number, backing_kind, backing_base, backing_size, backing_mapped}
@@ -144,6 +144,11 @@ work_refusal (work.Work w) = 0
 abbrev pub work_answer_in : List ℕ → WorkAnswer → List ℕ
 work_answer_in out (work.Refused n) = out
 work_answer_in out (work.Work w) = started_in out w
+
+-- what `refuse` makes of a refusal's number, whatever it is, else what `tell` makes of the answer
+abbrev pub told_by_number : {A B : Type 0} → (A → B) → (ℕ → B) → Result A ℕ → B
+told_by_number tell refuse (Ok a) = tell a
+told_by_number tell refuse (Err n) = refuse n
 
 -- a read's, by its kind
 

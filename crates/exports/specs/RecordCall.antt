@@ -1,9 +1,9 @@
 -- What an exported call gives that reads, or answers work or an image.
-use Rattle.std.specs.Prelude.{◌≡◌, cond, ℕ, List, length, ltb, Result}
+use Rattle.std.specs.Prelude.{◌≡◌, cond, ℕ, List, length, ltb, Result, Ok, Err}
 use Rattle.std.specs.Borrow.{MutBor}
 use Rattle.answers.specs.declared.error.SchedulerError.{SchedulerError}
 use Rattle.answers.specs.declared.Answer.TheVariants.{Count}
-use Rattle.answers.specs.Errors.{answer_of}
+use Rattle.answers.specs.Errors.{number, answer_of}
 use Rattle.images.specs.declared.DpcWork.{DpcWork}
 use Rattle.dpc_work.specs.Work.{Started, start_outcome, told}
 use Rattle.calls.specs.Guard.{Kind, Code}
@@ -26,9 +26,19 @@ room kind.counts = 24
 unfoldable pub read_by : (k : Kind) → List ℕ → List ℕ → Code k → Given
 read_by k w out a = cond (ltb (length out) (room k)) (given 27 w out) (given (refusal_as k a) w (answer_as k out a))
 
--- what puts an answer into an output with room for it, by its runs: the number that it answers, and what it leaves there
-abbrev pub Puts : (MutBor (List ℕ) → ℕ → MutBor (List ℕ) → Type 0) → (k : Kind) → Code k → Type 0
-Puts runs k a = (out : MutBor (List ℕ)) (n : ℕ) (after : MutBor (List ℕ)) → runs out n after → (n ≡ refusal_as k a) × (after.now ≡ answer_as k out.now a)
+-- what a read answers, and what puts that into an output with room for it, by their runs: the number that it answers, and what it leaves there
+abbrev pub Puts : {A : Type 0} → (A → Type 0) → (MutBor (List ℕ) → A → ℕ → MutBor (List ℕ) → Type 0) → (k : Kind) → Code k → Type 0
+Puts {A} reads puts k a = (r : A) → reads r → (out : MutBor (List ℕ)) (n : ℕ) (after : MutBor (List ℕ)) → puts out r n after
+    → (n ≡ refusal_as k a) × (after.now ≡ answer_as k out.now a)
+
+-- a refusal of the calls by its number
+abbrev pub by_number : {A : Type 0} → Result A SchedulerError → Result A ℕ
+by_number (Ok a) = Ok a
+by_number (Err e) = Err (number e)
+
+-- what a read of a record answers, by its runs: always what is told as `a`
+abbrev pub Tells : {A B : Type 0} → (A → Type 0) → (A → B) → B → Type 0
+Tells {A} runs tell a = (r : A) → runs r → tell r ≡ a
 
 -- ---- work: an output under 24 words is refused with 27
 

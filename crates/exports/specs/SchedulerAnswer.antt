@@ -71,6 +71,10 @@ changed_by w out o = cond (ltb (length out) 4) (given 27 w out) (given (refusal_
 abbrev pub Does : {A : Type 0} → (MutBor (List ℕ) → A → MutBor (List ℕ) → Type 0) → (A → Answer → Type 0) → (List ℕ → Outcome) → Type 0
 Does {A} runs converts f = (w : MutBor (List ℕ)) (r : A) (after : MutBor (List ℕ)) (a : Answer) → runs w r after → converts r a → outcome a after.now ≡ f w.now
 
+-- what a read answers: `runs` says which of its own answers it may give, and `converts` what that answer is told as
+abbrev pub Reads : {A : Type 0} → (A → Type 0) → (A → Answer → Type 0) → Answer → Type 0
+Reads {A} runs converts a = (r : A) (x : Answer) → runs r → converts r x → x ≡ a
+
 -- a dispatch has a second output, for the waiting threads' numbers
 pub record GivenAll : Type 0 where
   pub number : ℕ

@@ -101,54 +101,54 @@ pub extern "C" fn scheduler_restored_dpc(
 pub extern "C" fn scheduler_dpc_initializations(words: &[u64], out: &mut [u64]) -> u64
     ensures { given result words.now out.new ≡ read_by kind.plain words.now out.old (called words.now (call.Reads call.DpcInitializations)) }
 {
-    answer(out, scheduler::dpc_calls::dpc_initializations(words))
+    answer(out, || scheduler::dpc_calls::dpc_initializations(words))
 }
 
 #[unsafe(no_mangle)]
 pub extern "C" fn scheduler_queued_dpcs(words: &[u64], position: u64, out: &mut [u64]) -> u64
     ensures { given result words.now out.new ≡ read_by kind.plain words.now out.old (called words.now (call.Reads (call.QueuedDpcs position))) }
 {
-    answer(out, scheduler::dpc_calls::queued_dpcs(words, position))
+    answer(out, || scheduler::dpc_calls::queued_dpcs(words, position))
 }
 
 #[unsafe(no_mangle)]
 pub extern "C" fn scheduler_dpc(words: &[u64], address: u64, out: &mut [u64]) -> u64
     ensures { given result words.now out.new ≡ read_by kind.dpcs words.now out.old (called words.now (call.Reads (call.DpcAt address))) }
 {
-    dpc_answer(out, scheduler::dpc_calls::dpc(words, address).map(Some))
+    dpc_answer(out, || scheduler::dpc_calls::dpc(words, address).map(Some))
 }
 
 #[unsafe(no_mangle)]
 pub extern "C" fn scheduler_dpcs(words: &[u64], position: u64, out: &mut [u64]) -> u64
     ensures { given result words.now out.new ≡ read_by kind.dpcs words.now out.old (called words.now (call.Reads (call.Dpcs position))) }
 {
-    dpc_answer(out, scheduler::dpc_calls::dpcs(words, position))
+    dpc_answer(out, || scheduler::dpc_calls::dpcs(words, position))
 }
 
 #[unsafe(no_mangle)]
 pub extern "C" fn scheduler_active_dpc(words: &[u64], out: &mut [u64]) -> u64
     ensures { given result words.now out.new ≡ read_by kind.dpcs words.now out.old (called words.now (call.Reads call.ActiveDpc)) }
 {
-    dpc_answer(out, scheduler::dpc_calls::active_dpc(words))
+    dpc_answer(out, || scheduler::dpc_calls::active_dpc(words))
 }
 
 #[unsafe(no_mangle)]
 pub extern "C" fn scheduler_next_dpc(words: &[u64], out: &mut [u64]) -> u64
     ensures { given result words.now out.new ≡ read_by kind.dpcs words.now out.old (called words.now (call.Reads call.NextDpc)) }
 {
-    dpc_answer(out, scheduler::dpc_calls::next_dpc(words))
+    dpc_answer(out, || scheduler::dpc_calls::next_dpc(words))
 }
 
 #[unsafe(no_mangle)]
 pub extern "C" fn scheduler_dpc_policy(words: &[u64], out: &mut [u64]) -> u64
     ensures { given result words.now out.new ≡ read_by kind.policies words.now out.old (called words.now (call.Reads call.DpcPolicy)) }
 {
-    policy_answer(out, scheduler::dpc_calls::dpc_policy(words))
+    policy_answer(out, || scheduler::dpc_calls::dpc_policy(words))
 }
 
 #[unsafe(no_mangle)]
 pub extern "C" fn scheduler_dpc_counters(words: &[u64], out: &mut [u64]) -> u64
     ensures { given result words.now out.new ≡ read_by kind.counts words.now out.old (called words.now (call.Reads call.DpcCounters)) }
 {
-    counters_answer(out, scheduler::dpc_calls::dpc_counters(words))
+    counters_answer(out, || scheduler::dpc_calls::dpc_counters(words))
 }

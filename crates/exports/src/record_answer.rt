@@ -10,12 +10,12 @@ ghost use Rattle.dpc_reads.specs.Reads as dpcs;
 ghost use Rattle.dpc_reads.specs.CountersAnswer as counters;
 ghost use Rattle.dpc_reads.specs.DpcAnswer as dpc;
 ghost use Rattle.dpc_reads.specs.PolicyAnswer as policy;
-ghost use Rattle.dpc_work.specs.Work as work;
 ghost use Rattle.dpc_work.specs.Work.{Started};
+ghost use Rattle.dpc_work.specs.WorkAnswer as started;
 ghost use Rattle.timers.specs.Reads as timers;
 ghost use Rattle.timers.specs.TimerAnswer as timer;
 ghost use Rattle.exports.specs.SchedulerAnswer.{given};
-ghost use Rattle.exports.specs.RecordCall.{room, read_by, started_by, Puts, Starts};
+ghost use Rattle.exports.specs.RecordCall.{room, read_by, started_by, by_number, Puts, Tells, Starts};
 ghost use Rattle.exports.specs.RecordAnswer.{
   located_in,
   state_in,
@@ -33,6 +33,7 @@ ghost use Rattle.exports.specs.RecordAnswer.{
   thread_in,
   work_refusal,
   work_answer_in,
+  told_by_number,
   refusal_as,
   answer_as,
 };
@@ -218,129 +219,194 @@ fn put_thread(out: &mut [u64], t: ThreadView) -> u64
 }
 
 // ---- answers: the record written to `out`; the number of a refusal, which writes nothing. Each record has a tag and a writer of its own: a
-// trait over them would say the two again for each
+// trait over them would say the two again for each. A refusal is any number, not only one of document 01's table.
 
 #[tactic(auto, unfolding(crate::specs::RecordAnswer::refusal_as, crate::specs::RecordAnswer::answer_as))]
-pub fn put_timer_answer(out: &mut [u64], called: Result<Option<Timer>, SchedulerError>) -> u64
-    ensures { (result ≡ refusal_as kind.timers (told_by timers.told timer.Refused called)) × (out.new ≡ answer_as kind.timers out.old (told_by timers.told timer.Refused called)) }
+pub fn put_timer_answer(out: &mut [u64], called: Result<Option<Timer>, u64>) -> u64
+    ensures { (result ≡ refusal_as kind.timers (told_by_number timers.told timer.Refused called)) × (out.new ≡ answer_as kind.timers out.old (told_by_number timers.told timer.Refused called)) }
 {
     match called {
         Ok(Some(t)) => put_timer(out, t),
         Ok(None) => tag(out, tags::NONE),
-        Err(error) => error.number(),
+        Err(number) => number,
     }
 }
 
 #[tactic(auto, unfolding(crate::specs::RecordAnswer::refusal_as, crate::specs::RecordAnswer::answer_as))]
-pub fn put_dpc_answer(out: &mut [u64], called: Result<Option<Dpc>, SchedulerError>) -> u64
-    ensures { (result ≡ refusal_as kind.dpcs (told_by dpcs.told dpc.Refused called)) × (out.new ≡ answer_as kind.dpcs out.old (told_by dpcs.told dpc.Refused called)) }
+pub fn put_dpc_answer(out: &mut [u64], called: Result<Option<Dpc>, u64>) -> u64
+    ensures { (result ≡ refusal_as kind.dpcs (told_by_number dpcs.told dpc.Refused called)) × (out.new ≡ answer_as kind.dpcs out.old (told_by_number dpcs.told dpc.Refused called)) }
 {
     match called {
         Ok(Some(d)) => put_dpc(out, d),
         Ok(None) => tag(out, tags::NONE),
-        Err(error) => error.number(),
+        Err(number) => number,
     }
 }
 
-pub fn put_work_answer(out: &mut [u64], called: Result<DpcWork, SchedulerError>) -> u64
-    ensures { (result ≡ work_refusal (work.told called)) × (out.new ≡ work_answer_in out.old (work.told called)) }
+pub fn put_work_answer(out: &mut [u64], called: Result<DpcWork, u64>) -> u64
+    ensures { (result ≡ work_refusal (told_by_number started.Work started.Refused called)) × (out.new ≡ work_answer_in out.old (told_by_number started.Work started.Refused called)) }
 {
     match called {
         Ok(w) => put_started(out, w),
-        Err(error) => error.number(),
+        Err(number) => number,
     }
 }
 
 #[tactic(auto, unfolding(crate::specs::RecordAnswer::refusal_as, crate::specs::RecordAnswer::answer_as))]
-pub fn put_policy_answer(out: &mut [u64], called: Result<DpcPolicy, SchedulerError>) -> u64
-    ensures { (result ≡ refusal_as kind.policies (told_by dpcs.selected policy.Refused called)) × (out.new ≡ answer_as kind.policies out.old (told_by dpcs.selected policy.Refused called)) }
+pub fn put_policy_answer(out: &mut [u64], called: Result<DpcPolicy, u64>) -> u64
+    ensures { (result ≡ refusal_as kind.policies (told_by_number dpcs.selected policy.Refused called)) × (out.new ≡ answer_as kind.policies out.old (told_by_number dpcs.selected policy.Refused called)) }
 {
     match called {
         Ok(DpcPolicy::Unselected) => tag(out, tags::NO_POLICY),
         Ok(DpcPolicy::Cpu0Dispatch { first, second }) => put_pair(out, tags::POLICY, first, second),
-        Err(error) => error.number(),
+        Err(number) => number,
     }
 }
 
 #[tactic(auto, unfolding(crate::specs::RecordAnswer::refusal_as, crate::specs::RecordAnswer::answer_as))]
-pub fn put_counters_answer(out: &mut [u64], called: Result<DpcCounters, SchedulerError>) -> u64
-    ensures { (result ≡ refusal_as kind.counts (told_by counters.Counters counters.Refused called)) × (out.new ≡ answer_as kind.counts out.old (told_by counters.Counters counters.Refused called)) }
+pub fn put_counters_answer(out: &mut [u64], called: Result<DpcCounters, u64>) -> u64
+    ensures { (result ≡ refusal_as kind.counts (told_by_number counters.Counters counters.Refused called)) × (out.new ≡ answer_as kind.counts out.old (told_by_number counters.Counters counters.Refused called)) }
 {
     match called {
         Ok(n) => put_counters(out, n),
-        Err(error) => error.number(),
+        Err(number) => number,
     }
 }
 
 #[tactic(auto, unfolding(crate::specs::RecordAnswer::refusal_as, crate::specs::RecordAnswer::answer_as))]
-pub fn put_thread_answer(out: &mut [u64], called: Result<Option<ThreadView>, SchedulerError>) -> u64
-    ensures { (result ≡ refusal_as kind.threads (told_by read.told_thread thread.Refused called)) × (out.new ≡ answer_as kind.threads out.old (told_by read.told_thread thread.Refused called)) }
+pub fn put_thread_answer(out: &mut [u64], called: Result<Option<ThreadView>, u64>) -> u64
+    ensures { (result ≡ refusal_as kind.threads (told_by_number read.told_thread thread.Refused called)) × (out.new ≡ answer_as kind.threads out.old (told_by_number read.told_thread thread.Refused called)) }
 {
     match called {
         Ok(Some(t)) => put_thread(out, t),
         Ok(None) => tag(out, tags::NONE),
-        Err(error) => error.number(),
+        Err(number) => number,
     }
 }
 
 #[tactic(auto, unfolding(crate::specs::RecordAnswer::refusal_as, crate::specs::RecordAnswer::answer_as))]
-pub fn put_place_answer(out: &mut [u64], called: Result<Option<Place>, SchedulerError>) -> u64
-    ensures { (result ≡ refusal_as kind.places (told_by read.told_place place.Refused called)) × (out.new ≡ answer_as kind.places out.old (told_by read.told_place place.Refused called)) }
+pub fn put_place_answer(out: &mut [u64], called: Result<Option<Place>, u64>) -> u64
+    ensures { (result ≡ refusal_as kind.places (told_by_number read.told_place place.Refused called)) × (out.new ≡ answer_as kind.places out.old (told_by_number read.told_place place.Refused called)) }
 {
     match called {
         Ok(Some(p)) => put_pair(out, tags::OBJECT, p.kind, p.key),
         Ok(None) => tag(out, tags::NONE),
-        Err(error) => error.number(),
+        Err(number) => number,
     }
 }
 
-// ---- the same, where `out` has room for a record; else 27
+// A refusal of the calls by its number.
+#[tactic(auto, unfolding(crate::specs::RecordCall::by_number))]
+fn by_number<T>(called: Result<T, SchedulerError>) -> Result<T, u64>
+    ensures { result ≡ by_number called }
+{
+    match called {
+        Ok(answer) => Ok(answer),
+        Err(error) => Err(error.number()),
+    }
+}
 
-// What `put` writes, where there is room for it.
-fn in_room<F: FnOnce(&mut [u64]) -> u64>(out: &mut [u64], put: F) -> u64
-    requires { F.IsAlwaysCallable put }
-    ensures { (k : Kind) → room k ≡ 24 → (a : Code k) → Puts (F.post put) k a → (w : List ℕ) → given result w out.new ≡ read_by k w out.old a }
+// ---- the same of what a read answers, where `out` has room for a record; else 27, and no read
+
+// What `put` writes of what `read` answers, where there is room for it.
+fn in_room<A, R: FnOnce() -> A, P: FnOnce(&mut [u64], A) -> u64>(
+    out: &mut [u64],
+    read: R,
+    put: P,
+) -> u64
+    requires reads { R.IsAlwaysCallable read }
+    requires puts { P.IsAlwaysCallable put }
+    ensures { (k : Kind) → room k ≡ 24 → (a : Code k) → Puts (R.post read) (P.post put) k a → (w : List ℕ) → given result w out.new ≡ read_by k w out.old a }
 {
     if out.len() < 24 {
         return SchedulerError::OutOfForm.number();
     }
-    put(out)
+    let answer = read();
+    put(out, answer)
 }
 
-pub fn timer_answer(out: &mut [u64], called: Result<Option<Timer>, SchedulerError>) -> u64
-    ensures { (w : List ℕ) → given result w out.new ≡ read_by kind.timers w out.old (told_by timers.told timer.Refused called) }
+pub fn timer_answer<F: FnOnce() -> Result<Option<Timer>, SchedulerError>>(
+    out: &mut [u64],
+    called: F,
+) -> u64
+    requires { F.IsAlwaysCallable called }
+    ensures { (a : Code kind.timers) → Tells (F.post called) (told_by timers.told timer.Refused) a → (w : List ℕ) → given result w out.new ≡ read_by kind.timers w out.old a }
 {
-    in_room(out, |out| put_timer_answer(out, called))
+    in_room(
+        out,
+        called,
+        |out, called| put_timer_answer(out, by_number(called)),
+    )
 }
 
-pub fn dpc_answer(out: &mut [u64], called: Result<Option<Dpc>, SchedulerError>) -> u64
-    ensures { (w : List ℕ) → given result w out.new ≡ read_by kind.dpcs w out.old (told_by dpcs.told dpc.Refused called) }
+pub fn dpc_answer<F: FnOnce() -> Result<Option<Dpc>, SchedulerError>>(
+    out: &mut [u64],
+    called: F,
+) -> u64
+    requires { F.IsAlwaysCallable called }
+    ensures { (a : Code kind.dpcs) → Tells (F.post called) (told_by dpcs.told dpc.Refused) a → (w : List ℕ) → given result w out.new ≡ read_by kind.dpcs w out.old a }
 {
-    in_room(out, |out| put_dpc_answer(out, called))
+    in_room(
+        out,
+        called,
+        |out, called| put_dpc_answer(out, by_number(called)),
+    )
 }
 
-pub fn policy_answer(out: &mut [u64], called: Result<DpcPolicy, SchedulerError>) -> u64
-    ensures { (w : List ℕ) → given result w out.new ≡ read_by kind.policies w out.old (told_by dpcs.selected policy.Refused called) }
+pub fn policy_answer<F: FnOnce() -> Result<DpcPolicy, SchedulerError>>(
+    out: &mut [u64],
+    called: F,
+) -> u64
+    requires { F.IsAlwaysCallable called }
+    ensures { (a : Code kind.policies) → Tells (F.post called) (told_by dpcs.selected policy.Refused) a → (w : List ℕ) → given result w out.new ≡ read_by kind.policies w out.old a }
 {
-    in_room(out, |out| put_policy_answer(out, called))
+    in_room(
+        out,
+        called,
+        |out, called| put_policy_answer(out, by_number(called)),
+    )
 }
 
-pub fn counters_answer(out: &mut [u64], called: Result<DpcCounters, SchedulerError>) -> u64
-    ensures { (w : List ℕ) → given result w out.new ≡ read_by kind.counts w out.old (told_by counters.Counters counters.Refused called) }
+pub fn counters_answer<F: FnOnce() -> Result<DpcCounters, SchedulerError>>(
+    out: &mut [u64],
+    called: F,
+) -> u64
+    requires { F.IsAlwaysCallable called }
+    ensures { (a : Code kind.counts) → Tells (F.post called) (told_by counters.Counters counters.Refused) a → (w : List ℕ) → given result w out.new ≡ read_by kind.counts w out.old a }
 {
-    in_room(out, |out| put_counters_answer(out, called))
+    in_room(
+        out,
+        called,
+        |out, called| put_counters_answer(out, by_number(called)),
+    )
 }
 
-pub fn thread_answer(out: &mut [u64], called: Result<Option<ThreadView>, SchedulerError>) -> u64
-    ensures { (w : List ℕ) → given result w out.new ≡ read_by kind.threads w out.old (told_by read.told_thread thread.Refused called) }
+pub fn thread_answer<F: FnOnce() -> Result<Option<ThreadView>, SchedulerError>>(
+    out: &mut [u64],
+    called: F,
+) -> u64
+    requires { F.IsAlwaysCallable called }
+    ensures { (a : Code kind.threads) → Tells (F.post called) (told_by read.told_thread thread.Refused) a → (w : List ℕ) → given result w out.new ≡ read_by kind.threads w out.old a }
 {
-    in_room(out, |out| put_thread_answer(out, called))
+    in_room(
+        out,
+        called,
+        |out, called| put_thread_answer(out, by_number(called)),
+    )
 }
 
-pub fn place_answer(out: &mut [u64], called: Result<Option<Place>, SchedulerError>) -> u64
-    ensures { (w : List ℕ) → given result w out.new ≡ read_by kind.places w out.old (told_by read.told_place place.Refused called) }
+pub fn place_answer<F: FnOnce() -> Result<Option<Place>, SchedulerError>>(
+    out: &mut [u64],
+    called: F,
+) -> u64
+    requires { F.IsAlwaysCallable called }
+    ensures { (a : Code kind.places) → Tells (F.post called) (told_by read.told_place place.Refused) a → (w : List ℕ) → given result w out.new ≡ read_by kind.places w out.old a }
 {
-    in_room(out, |out| put_place_answer(out, called))
+    in_room(
+        out,
+        called,
+        |out, called| put_place_answer(out, by_number(called)),
+    )
 }
 
 // A call that starts work, and the work written to `out`; without room for it 27, and no call.
@@ -356,5 +422,5 @@ pub fn start<F: FnOnce(&mut [u64]) -> Result<DpcWork, SchedulerError>>(
         return SchedulerError::OutOfForm.number();
     }
     let answer = call(words);
-    put_work_answer(out, answer)
+    put_work_answer(out, by_number(answer))
 }

@@ -5,7 +5,7 @@ ghost use Rattle.answers.specs.Outcome.{Outcome};
 ghost use Rattle.calls.specs.Guard as kind;
 ghost use Rattle.calls.specs.Images.{Imaged};
 ghost use Rattle.exports.specs.RecordCall.{read_by, given_image, imaged_by, Writes};
-ghost use Rattle.exports.specs.SchedulerAnswer.{refusal_of, answer_in, tagged, valued, evented, given, changed_by, Does};
+ghost use Rattle.exports.specs.SchedulerAnswer.{refusal_of, answer_in, tagged, valued, evented, given, changed_by, Does, Reads};
 ghost use Rattle.answers.specs.Outcome.{bit};
 
 use super::tags;
@@ -104,13 +104,14 @@ pub fn image<F: FnOnce(&mut [u8]) -> Result<u64, SchedulerError>>(
     put_answer(out, answer.into())
 }
 
-// What a read answers, written to `out`; 27 without room for it.
-pub fn answer<T: Into<Answer>>(out: &mut [u64], read: T) -> u64
-    ensures { (a : Answer) → ((x : Answer) → T.converts read x → x ≡ a) → (w : List ℕ) → given result w out.new ≡ read_by kind.plain w out.old a }
+// What a read answers, written to `out`; without room for an answer 27, and no read.
+pub fn answer<T: Into<Answer>, F: FnOnce() -> T>(out: &mut [u64], read: F) -> u64
+    requires { F.IsAlwaysCallable read }
+    ensures { (a : Answer) → Reads (F.post read) T.converts a → (w : List ℕ) → given result w out.new ≡ read_by kind.plain w out.old a }
 {
-    let told = read.into();
     if out.len() < 4 {
         return SchedulerError::OutOfForm.number();
     }
+    let told = read().into();
     put_answer(out, told)
 }

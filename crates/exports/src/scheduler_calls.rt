@@ -159,35 +159,35 @@ pub extern "C" fn scheduler_advance_to(words: &mut [u64], time: u64, out: &mut [
 pub extern "C" fn scheduler_current(words: &[u64], out: &mut [u64]) -> u64
     ensures { given result words.now out.new ≡ read_by kind.plain words.now out.old (called words.now (call.Reads call.Current)) }
 {
-    answer(out, scheduler::reads::current(words))
+    answer(out, || scheduler::reads::current(words))
 }
 
 #[unsafe(no_mangle)]
 pub extern "C" fn scheduler_mutex_owner(words: &[u64], key: u64, out: &mut [u64]) -> u64
     ensures { given result words.now out.new ≡ read_by kind.plain words.now out.old (called words.now (call.Reads (call.MutexOwner key))) }
 {
-    answer(out, scheduler::reads::mutex_owner(words, key))
+    answer(out, || scheduler::reads::mutex_owner(words, key))
 }
 
 #[unsafe(no_mangle)]
 pub extern "C" fn scheduler_mutex_waiters(words: &[u64], key: u64, out: &mut [u64]) -> u64
     ensures { given result words.now out.new ≡ read_by kind.plain words.now out.old (called words.now (call.Reads (call.MutexWaiters key))) }
 {
-    answer(out, scheduler::reads::mutex_waiters(words, key))
+    answer(out, || scheduler::reads::mutex_waiters(words, key))
 }
 
 #[unsafe(no_mangle)]
 pub extern "C" fn scheduler_event_state(words: &[u64], key: u64, out: &mut [u64]) -> u64
     ensures { given result words.now out.new ≡ read_by kind.plain words.now out.old (called words.now (call.Reads (call.EventState key))) }
 {
-    answer(out, scheduler::reads::event_state(words, key))
+    answer(out, || scheduler::reads::event_state(words, key))
 }
 
 #[unsafe(no_mangle)]
 pub extern "C" fn scheduler_event_states(words: &[u64], position: u64, out: &mut [u64]) -> u64
     ensures { given result words.now out.new ≡ read_by kind.plain words.now out.old (called words.now (call.Reads (call.EventStates position))) }
 {
-    answer(out, scheduler::reads::event_states(words, position))
+    answer(out, || scheduler::reads::event_states(words, position))
 }
 
 #[unsafe(no_mangle)]
@@ -202,7 +202,7 @@ pub extern "C" fn scheduler_require_event_release(
 {
     answer(
         out,
-        scheduler::reads::require_event_release(words, base, size, layout),
+        || scheduler::reads::require_event_release(words, base, size, layout),
     )
 }
 
@@ -215,7 +215,7 @@ pub extern "C" fn scheduler_words_needed(
 ) -> u64
     ensures { given result out.old out.new ≡ read_by kind.plain out.old out.old (opening.sized threads objects dpcs) }
 {
-    answer(out, opening::words_needed(threads, objects, dpcs))
+    answer(out, || opening::words_needed(threads, objects, dpcs))
 }
 
 #[unsafe(no_mangle)]

@@ -12,14 +12,14 @@ use super::record_answer::{place_answer, thread_answer};
 pub extern "C" fn scheduler_thread(words: &[u64], id: u64, out: &mut [u64]) -> u64
     ensures { given result words.now out.new ≡ read_by kind.threads words.now out.old (called words.now (call.Reads (call.Thread id))) }
 {
-    thread_answer(out, scheduler::thread_reads::thread(words, id))
+    thread_answer(out, || scheduler::thread_reads::thread(words, id))
 }
 
 #[unsafe(no_mangle)]
 pub extern "C" fn scheduler_threads(words: &[u64], position: u64, out: &mut [u64]) -> u64
     ensures { given result words.now out.new ≡ read_by kind.threads words.now out.old (called words.now (call.Reads (call.Threads position))) }
 {
-    thread_answer(out, scheduler::thread_reads::threads(words, position))
+    thread_answer(out, || scheduler::thread_reads::threads(words, position))
 }
 
 #[unsafe(no_mangle)]
@@ -33,6 +33,6 @@ pub extern "C" fn scheduler_waited_object(
 {
     place_answer(
         out,
-        scheduler::thread_reads::waited_object(words, id, position),
+        || scheduler::thread_reads::waited_object(words, id, position),
     )
 }

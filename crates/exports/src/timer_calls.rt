@@ -135,7 +135,7 @@ pub extern "C" fn scheduler_require_timer_release(
 {
     answer(
         out,
-        scheduler::timer_calls::require_timer_release(words, address, size),
+        || scheduler::timer_calls::require_timer_release(words, address, size),
     )
 }
 
@@ -143,7 +143,7 @@ pub extern "C" fn scheduler_require_timer_release(
 pub extern "C" fn scheduler_timer_initializations(words: &[u64], out: &mut [u64]) -> u64
     ensures { given result words.now out.new ≡ read_by kind.plain words.now out.old (called words.now (call.Reads call.TimerInitializations)) }
 {
-    answer(out, scheduler::timer_calls::timer_initializations(words))
+    answer(out, || scheduler::timer_calls::timer_initializations(words))
 }
 
 #[unsafe(no_mangle)]
@@ -157,7 +157,7 @@ pub extern "C" fn scheduler_timer_read_overlap(
 {
     answer(
         out,
-        scheduler::timer_calls::timer_read_overlap(words, address, size),
+        || scheduler::timer_calls::timer_read_overlap(words, address, size),
     )
 }
 
@@ -172,7 +172,7 @@ pub extern "C" fn scheduler_timer_metadata_overlap(
 {
     answer(
         out,
-        scheduler::timer_calls::timer_metadata_overlap(words, address, size),
+        || scheduler::timer_calls::timer_metadata_overlap(words, address, size),
     )
 }
 
@@ -180,19 +180,22 @@ pub extern "C" fn scheduler_timer_metadata_overlap(
 pub extern "C" fn scheduler_timer(words: &[u64], address: u64, out: &mut [u64]) -> u64
     ensures { given result words.now out.new ≡ read_by kind.timers words.now out.old (called words.now (call.Reads (call.TimerAt address))) }
 {
-    timer_answer(out, scheduler::timer_calls::timer(words, address).map(Some))
+    timer_answer(
+        out,
+        || scheduler::timer_calls::timer(words, address).map(Some),
+    )
 }
 
 #[unsafe(no_mangle)]
 pub extern "C" fn scheduler_timers(words: &[u64], position: u64, out: &mut [u64]) -> u64
     ensures { given result words.now out.new ≡ read_by kind.timers words.now out.old (called words.now (call.Reads (call.Timers position))) }
 {
-    timer_answer(out, scheduler::timer_calls::timers(words, position))
+    timer_answer(out, || scheduler::timer_calls::timers(words, position))
 }
 
 #[unsafe(no_mangle)]
 pub extern "C" fn scheduler_pending_timer_dpc(words: &[u64], out: &mut [u64]) -> u64
     ensures { given result words.now out.new ≡ read_by kind.timers words.now out.old (called words.now (call.Reads call.PendingTimerDpc)) }
 {
-    timer_answer(out, scheduler::timer_calls::pending_timer_dpc(words))
+    timer_answer(out, || scheduler::timer_calls::pending_timer_dpc(words))
 }

@@ -13,12 +13,12 @@ use exports::scheduler_answer::answer;
 pub extern "C" fn unchecked_event_entry(words: &[u64], entry: u64, out: &mut [u64]) -> u64
     ensures { given result words.now out.new ≡ read_by kind.plain words.now out.old (event_entry words.now «entry») }
 {
-    answer(out, entries::event_entry(words, entry))
+    answer(out, || entries::event_entry(words, entry))
 }
 
 #[unsafe(no_mangle)]
 pub extern "C" fn unchecked_timer_entry(words: &[u64], entry: u64, out: &mut [u64]) -> u64
     ensures { given result words.now out.new ≡ read_by kind.timers words.now out.old (timer_entry words.now «entry») }
 {
-    timer_answer(out, entries::timer_entry(words, entry))
+    timer_answer(out, || entries::timer_entry(words, entry))
 }

@@ -20,7 +20,7 @@ pub extern "C" fn unchecked_require_timer_release(
 {
     answer(
         out,
-        timers::release::require_timer_release(words, address, size),
+        || timers::release::require_timer_release(words, address, size),
     )
 }
 
@@ -28,7 +28,7 @@ pub extern "C" fn unchecked_require_timer_release(
 pub extern "C" fn unchecked_timer_initializations(words: &[u64], out: &mut [u64]) -> u64
     ensures { given result words.now out.new ≡ read_by kind.plain words.now out.old (unchecked words.now (call.Reads call.TimerInitializations)) }
 {
-    answer(out, timers::reads::timer_initializations(words))
+    answer(out, || timers::reads::timer_initializations(words))
 }
 
 #[unsafe(no_mangle)]
@@ -40,7 +40,10 @@ pub extern "C" fn unchecked_timer_read_overlap(
 ) -> u64
     ensures { given result words.now out.new ≡ read_by kind.plain words.now out.old (unchecked words.now (call.Reads (call.TimerReadOverlap address size))) }
 {
-    answer(out, timers::reads::timer_read_overlap(words, address, size))
+    answer(
+        out,
+        || timers::reads::timer_read_overlap(words, address, size),
+    )
 }
 
 #[unsafe(no_mangle)]
@@ -54,7 +57,7 @@ pub extern "C" fn unchecked_timer_metadata_overlap(
 {
     answer(
         out,
-        timers::reads::timer_metadata_overlap(words, address, size),
+        || timers::reads::timer_metadata_overlap(words, address, size),
     )
 }
 
@@ -62,19 +65,19 @@ pub extern "C" fn unchecked_timer_metadata_overlap(
 pub extern "C" fn unchecked_timer(words: &[u64], address: u64, out: &mut [u64]) -> u64
     ensures { given result words.now out.new ≡ read_by kind.timers words.now out.old (unchecked words.now (call.Reads (call.TimerAt address))) }
 {
-    timer_answer(out, timers::reads::timer(words, address).map(Some))
+    timer_answer(out, || timers::reads::timer(words, address).map(Some))
 }
 
 #[unsafe(no_mangle)]
 pub extern "C" fn unchecked_timers(words: &[u64], position: u64, out: &mut [u64]) -> u64
     ensures { given result words.now out.new ≡ read_by kind.timers words.now out.old (unchecked words.now (call.Reads (call.Timers position))) }
 {
-    timer_answer(out, Ok(timers::reads::timers_at(words, position)))
+    timer_answer(out, || Ok(timers::reads::timers_at(words, position)))
 }
 
 #[unsafe(no_mangle)]
 pub extern "C" fn unchecked_pending_timer_dpc(words: &[u64], out: &mut [u64]) -> u64
     ensures { given result words.now out.new ≡ read_by kind.timers words.now out.old (unchecked words.now (call.Reads call.PendingTimerDpc)) }
 {
-    timer_answer(out, Ok(timers::reads::pending_timer_dpc(words)))
+    timer_answer(out, || Ok(timers::reads::pending_timer_dpc(words)))
 }

@@ -1,9 +1,13 @@
-use mathlib.Core.Path.{refl}
+use mathlib.Core.Path.{refl, ◌∙◌, subst, ◌≡◌}
 use Rattle.std.proofs.Common.{rules, tests}
-use Rattle.answers.specs.Errors.{told_by}
 use Rattle.calls.specs.Guard as kind
 use Rattle.dpc_reads.specs.CountersAnswer as counters
+use Rattle.exports.specs.RecordAnswer.{told_by_number, refusal_as, answer_as}
+use Rattle.exports.specs.RecordCall.{by_number}
+use Rattle.exports.proofs.RecordLaws.{told-by-number}
 use Rattle.exports.proofs.record_answer.counters_answer.Goals as goal
 
 pub returns : goal.returns
-returns c = λ w. c.in_room.ensures kind.counts refl (told_by counters.Counters counters.Refused c.args.called) (λ out n after ran. search (rules, tests)) w
+returns g c = λ a tells w. c.in_room.ensures kind.counts refl a (λ r ran out n after puts.
+    let e : told_by_number counters.Counters counters.Refused (by_number r) ≡ a = told-by-number counters.Counters counters.Refused r ∙ tells r ran in
+    subst (λ x. (n ≡ refusal_as kind.counts x) × (after.now ≡ answer_as kind.counts out.now x)) e (search (rules, tests))) w

@@ -1,10 +1,14 @@
-use mathlib.Core.Path.{refl}
+use mathlib.Core.Path.{refl, ◌∙◌, subst, ◌≡◌}
 use Rattle.std.proofs.Common.{rules, tests}
-use Rattle.answers.specs.Errors.{told_by}
 use Rattle.calls.specs.Guard as kind
 use Rattle.dispatcher.specs.Read as read
 use Rattle.dispatcher.specs.ThreadAnswer as thread
+use Rattle.exports.specs.RecordAnswer.{told_by_number, refusal_as, answer_as}
+use Rattle.exports.specs.RecordCall.{by_number}
+use Rattle.exports.proofs.RecordLaws.{told-by-number}
 use Rattle.exports.proofs.record_answer.thread_answer.Goals as goal
 
 pub returns : goal.returns
-returns c = λ w. c.in_room.ensures kind.threads refl (told_by read.told_thread thread.Refused c.args.called) (λ out n after ran. search (rules, tests)) w
+returns g c = λ a tells w. c.in_room.ensures kind.threads refl a (λ r ran out n after puts.
+    let e : told_by_number read.told_thread thread.Refused (by_number r) ≡ a = told-by-number read.told_thread thread.Refused r ∙ tells r ran in
+    subst (λ x. (n ≡ refusal_as kind.threads x) × (after.now ≡ answer_as kind.threads out.now x)) e (search (rules, tests))) w

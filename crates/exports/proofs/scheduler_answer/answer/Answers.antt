@@ -8,4 +8,4 @@ pub returns-then-out-lt4 : goal.returns-then-out-lt4
 returns-then-out-lt4 g c = λ a tells w. given-same c.number.ensures refl ∙ read_short kind.plain w c.args.out.now a c.if-out-lt4.true
 
 pub returns : goal.returns
-returns g c = λ a tells w. given-same c.put_answer.ensures.0 c.put_answer.ensures.1 ∙ read-by kind.plain w c.args.out.now c.into-told.result a c.if-out-lt4.false (tells _ c.into-told.ensures)
+returns g c = λ a tells w. given-same c.put_answer.ensures.0 c.put_answer.ensures.1 ∙ read-by kind.plain w c.args.out.now c.into-told.result a c.if-out-lt4.false (tells _ _ c.read.ensures c.into-told.ensures)
