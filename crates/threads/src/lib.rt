@@ -1,7 +1,7 @@
 // A thread's record in the words: its state, and what it waits for.
 #![tactic(auto)]
 
-ghost use Rattle.std.specs.Prelude.{◌≡◌, ◌≤◌, length};
+ghost use Rattle.std.specs.Prelude.{◌≡◌, ◌≤◌};
 ghost use Rattle.threads.specs.Thread.{thread_of, put_thread, known, thread_count, count_of, all_of, places_at, filled, recorded, put_places, put_terms, put_wait, no_wait};
 
 use words::layout;
@@ -128,18 +128,19 @@ pub fn record_of(list: &[u64], n: usize, all: u64, timed: u64, deadline: u64, se
     }
 }
 
-// The places written from `at` on.
-fn put_places(w: &mut [u64], at: usize, places: &[u64])
-    ensures { w.new ≡ put_places (length places.now) w.old at places.now 0 }
+// The first `n` words of the places written from `at` on.
+fn put_places(w: &mut [u64], at: usize, places: [u64; 128], n: usize)
+    requires { n ≤ 128 }
+    ensures { w.new ≡ put_places n w.old at places 0 }
 {
-    for (i, &place) in places.iter().enumerate() {
-        words::put_in(w, at, i, place);
+    for i in 0..n {
+        words::put_in(w, at, i, places[i]);
     }
 }
 
 // The words of a thread's wait beside its places.
-fn put_terms(w: &mut [u64], id: u64, x: &Wait)
-    ensures { w.new ≡ put_terms w.old id x.now }
+fn put_terms(w: &mut [u64], id: u64, x: Wait)
+    ensures { w.new ≡ put_terms w.old id x }
 {
     let at = layout::thread_at(id);
     words::put_in(w, at, layout::WAIT_ALL, x.all);
@@ -154,8 +155,8 @@ pub fn write_wait(w: &mut [u64], id: u64, x: Wait)
     requires { x.count ≤ 64 }
     ensures { w.new ≡ put_wait w.old id x }
 {
-    put_terms(w, id, &x);
-    put_places(w, places_at(id), &x.places[..2 * x.count as usize]);
+    put_terms(w, id, x);
+    put_places(w, places_at(id), x.places, 2 * x.count as usize);
 }
 
 // A function: a const of 1 KB is copied all the same, and is no plainer.

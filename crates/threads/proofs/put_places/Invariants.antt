@@ -5,4 +5,4 @@ use Rattle.threads.specs.Thread.{put_places}
 use Rattle.threads.proofs.put_places.Given as goal
 
 abbrev pub invariant-loop-i : goal.invariant-loop-i
-invariant-loop-i l = (length l.w ≡ length l.initial.w) × (put_places (length l.places - l.i) l.w l.at l.places l.i ≡ put_places (length l.places) l.initial.w l.at l.places 0)
+invariant-loop-i l = (length l.w ≡ length l.initial.w) × (put_places (l.n - l.i) l.w l.at l.places l.i ≡ put_places l.n l.initial.w l.at l.places 0)
