@@ -1,2 +1,3 @@
-pub mod PlaceLaws
 pub mod WalkLaws
+pub mod RefusalLaws
+pub mod PlaceLaws
